@@ -1,0 +1,3 @@
+pub mod Word
+pub mod U256
+pub mod Carry
