@@ -1,6 +1,6 @@
 -- Laws of 256-bit values: sums word by word, and the numbers that four words hold. Assumes nothing.
 use Prim.Native.Nat.{ℕ, _+_, _-_, _*_, _/_, _%_, _^_, _≤_, _<_}
-use mathlib.Core.Bool.{Bool, true, false, not, _&&_, _||_}
+use mathlib.Core.Bool.{Bool, true, false, not, _&&_, _||_, and-assoc}
 use mathlib.Core.Path.{_≡_, refl, sym, ap, _∙_}
 use native.Mathlib.Omega.{arith}
 use native.Mathlib.Nat.{add-zero}
@@ -152,19 +152,11 @@ zero-step x r = go (eqb x 0) (eqb r 0) refl refl
     go true false e f = ne-eqb (x + 2 ^ 64 * r) 0 (λ (z : x + 2 ^ 64 * r ≡ 0). eqb-false r 0 f (omega arith))
     go false t e f = ne-eqb (x + 2 ^ 64 * r) 0 (λ (z : x + 2 ^ 64 * r ≡ 0). eqb-false x 0 e (omega arith))
 
-and-assoc : (a b c d : Bool) → (((a && b) && c) && d) ≡ (a && (b && (c && d)))
-and-assoc true b c d = and-assoc-3 b c d
-  where
-    and-assoc-3 : (b c d : Bool) → ((b && c) && d) ≡ (b && (c && d))
-    and-assoc-3 true c d = refl
-    and-assoc-3 false c d = refl
-and-assoc false b c d = refl
-
 pub is-zero : (a : U256) → (((eqb (a .w0) 0 && eqb (a .w1) 0) && eqb (a .w2) 0) && eqb (a .w3) 0) ≡ isZero a
 unfolding isZero
 is-zero a =
-    rw (zero-step (a .w0) (a .w1 + 2 ^ 64 * (a .w2 + 2 ^ 64 * a .w3)), zero-step (a .w1) (a .w2 + 2 ^ 64 * a .w3), zero-step (a .w2) (a .w3))
-    (and-assoc (eqb (a .w0) 0) (eqb (a .w1) 0) (eqb (a .w2) 0) (eqb (a .w3) 0))
+    simp and-assoc
+    (rw (zero-step (a .w0) (from1 a), zero-step (a .w1) (from2 a), zero-step (a .w2) (a .w3)))
 
 -- ---- the lowest bits
 pub low-bits : (j w : ℕ) (a : U256) → j + w ≡ 64 → a .w0 % 2 ^ w ≡ lowOf w a

@@ -1,0 +1,5 @@
+pub mod Bools
+pub mod KernelLaws
+pub mod Copy
+pub mod RowLaws
+pub mod StoreLaws

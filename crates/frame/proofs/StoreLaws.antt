@@ -1,0 +1,147 @@
+-- Rows of the frame store: saved, read back, and left as they were. Assumes nothing.
+use Prim.Native.Nat.{ℕ, zero, suc, _+_, _-_, _*_, _/_, _^_, _≤_, _<_}
+use mathlib.Core.Bool.{Bool, true, false, _&&_}
+use mathlib.Core.Path.{_≡_, refl, sym, ap, _∙_}
+use mathlib.Core.Logic.{_↔_}
+use mathlib.Core.List.{List, [], _∷_, _++_, append-nil}
+use native.Mathlib.Omega.{arith}
+use native.Mathlib.Nat.{add-sub-cancel-left, zero-add, suc-add}
+use lib.Dec.{ltb, leb}
+use lib.ListN.{length, take, drop, length-drop, length-take, length-append}
+use lib.Seq.{take-all, take-nil, drop-length, drop-drop, take-at, drop-at, take-take, take-append-le, drop-append-add, length-take-le, ext-getD}
+use borrow.Author.Tests.{lt-ltb, le-ltb, le-leb, ltb-true, ltb-false}
+use Rattle.frame.specs.declared.Frame.{Frame}
+use Rattle.frame.specs.declared.SaveAnswer.{SaveAnswer}
+use Rattle.frame.specs.declared.ReadAnswer.{ReadAnswer}
+use Rattle.frame.specs.Row.{rowWidth, rowOf, word, frameOf, goodWords, goodRow}
+use Rattle.frame.specs.Bounds.{Bounds}
+use Rattle.frame.specs.Store.{wholeRows, rowAt, storeWith, saveOf, savedStore, readOf}
+use Rattle.frame.proofs.RowLaws.{Ranges, bounds, good-of-frame, frame-of-row}
+
+-- a row that the store has lies in it whole
+fits : (n i : ℕ) → i < n / rowWidth → (i + 1) * rowWidth ≤ n
+fits n i h = omega arith
+
+next-row : (i : ℕ) → i * rowWidth + rowWidth ≡ (i + 1) * rowWidth
+next-row i = omega arith
+
+row-size : (store : List ℕ) (i : ℕ) → i < wholeRows store → length (rowAt store i) ≡ rowWidth
+row-size store i h =
+    length-take-le rowWidth (drop (i * rowWidth) store) (omega (arith, length-drop (i * rowWidth) store, fits (length store) i h))
+
+-- the last row of the first k + 1 rows
+row-of-front : (store : List ℕ) (k : ℕ) → drop (k * rowWidth) (take ((k + 1) * rowWidth) store) ≡ rowAt store k
+row-of-front store k = ap (λ (n : ℕ). drop (k * rowWidth) (take n store)) (sym (next-row k)) ∙ drop-of-take (k * rowWidth) rowWidth store
+  where
+    drop-of-take : (m n : ℕ) (l : List ℕ) → drop m (take (m + n) l) ≡ take n (drop m l)
+    drop-of-take zero n l = rw (zero-add n)
+    drop-of-take (suc m) n [] = rw (take-nil {A = ℕ} (suc m + n), take-nil {A = ℕ} n)
+    drop-of-take (suc m) n (x ∷ l) = rw (suc-add m n) (drop-of-take m n l)
+
+-- ---- reading
+module _ (store : List ℕ) (i : ℕ) where
+  -- the row as the code lends it
+  abbrev lent : List ℕ
+  lent = take (i * rowWidth + rowWidth - i * rowWidth) (drop (i * rowWidth) store)
+
+  lent-row : lent ≡ rowAt store i
+  lent-row = ap (λ (n : ℕ). take n (drop (i * rowWidth) store)) (add-sub-cancel-left (i * rowWidth) rowWidth)
+
+  pub read-missing : wholeRows store ≤ i → ReadAnswer.Missing ≡ readOf store i
+  unfolding readOf
+  read-missing h = rw (le-ltb i (wholeRows store) h)
+
+  module _ (h : i < wholeRows store) (b : Bool) (e : b ≡ goodWords 16 lent) where
+    sized : leb rowWidth (length (rowAt store i)) ≡ true
+    sized = le-leb rowWidth (length (rowAt store i)) (omega (arith, row-size store i h))
+
+    pub read-bounds : b ≡ true → Bounds lent
+    read-bounds t =
+        bounds lent (omega (arith, ap length lent-row ∙ row-size store i h)) (sym e ∙ t)
+
+    pub read-good : b ≡ true → (f : Frame) → f ≡ frameOf lent → ReadAnswer.Good f ≡ readOf store i
+    unfolding readOf
+    read-good t f q =
+        rw (lt-ltb i (wholeRows store) h, sized, ← ap (goodWords 16) lent-row, ← e, t, q, lent-row)
+
+    pub read-not-good : b ≡ false → ReadAnswer.NotGood ≡ readOf store i
+    unfolding readOf
+    read-not-good t = rw (lt-ltb i (wholeRows store) h, sized, ← ap (goodWords 16) lent-row, ← e, t)
+
+-- ---- saving
+module _ (store : List ℕ) (i : ℕ) (f : Frame) where
+  pub save-missing : wholeRows store ≤ i → (SaveAnswer.Missing ≡ saveOf store i) × (store ≡ savedStore store i f)
+  unfolding saveOf savedStore
+  save-missing h = rw (le-ltb i (wholeRows store) h) (refl, refl)
+
+  -- what a callee wrote at the front of the part that begins at the row, said of the whole store
+  module _ (h : i < wholeRows store) (last : List ℕ)
+      (e : last ≡ rowOf f ++ drop rowWidth (take (length store - i * rowWidth) (drop (i * rowWidth) store))) where
+    written : take (i * rowWidth) store ++ (last ++ drop (length store - i * rowWidth) (drop (i * rowWidth) store)) ≡ storeWith store i f
+    written =
+        let all : take (length store - i * rowWidth) (drop (i * rowWidth) store) ≡ drop (i * rowWidth) store =
+        take-all (length store - i * rowWidth) (drop (i * rowWidth) store) (omega (arith, length-drop (i * rowWidth) store)) in
+        let none : drop (length store - i * rowWidth) (drop (i * rowWidth) store) ≡ [] =
+        ap (λ (n : ℕ). drop n (drop (i * rowWidth) store)) (sym (length-drop (i * rowWidth) store)) ∙ drop-length (drop (i * rowWidth) store) in
+        let next : drop rowWidth (drop (i * rowWidth) store) ≡ drop ((i + 1) * rowWidth) store =
+        drop-drop rowWidth (i * rowWidth) store ∙ ap (λ (n : ℕ). drop n store) (next-row i) in
+        rw (e, all, none, append-nil (rowOf f ++ drop rowWidth (drop (i * rowWidth) store)), next)
+
+    pub save-done : (SaveAnswer.Saved ≡ saveOf store i)
+        × (take (i * rowWidth) store ++ (last ++ drop (length store - i * rowWidth) (drop (i * rowWidth) store)) ≡ savedStore store i f)
+    unfolding saveOf savedStore
+    save-done = rw (lt-ltb i (wholeRows store) h) (refl, written)
+
+-- ---- what a saved row leaves, and what is read from it
+module _ (store : List ℕ) (i : ℕ) (f : Frame) (h : i < wholeRows store) where
+  before : length (take (i * rowWidth) store) ≡ i * rowWidth
+  before = length-take-le (i * rowWidth) store (omega (arith, fits (length store) i h))
+
+  pub with-length : length (storeWith store i f) ≡ length store
+  with-length =
+      simp (length-append, length-drop, before) (omega (arith, fits (length store) i h))
+
+  -- the rows below
+  pub with-below : (k : ℕ) → k ≤ i → take (k * rowWidth) (storeWith store i f) ≡ take (k * rowWidth) store
+  with-below k l =
+      take-append-le (k * rowWidth) (take (i * rowWidth) store) _ (omega (arith, before))
+      ∙ take-take (k * rowWidth) (i * rowWidth) store (omega arith)
+
+  -- the row itself
+  pub with-row : rowAt (storeWith store i f) i ≡ rowOf f
+  with-row = rw (drop-at (take (i * rowWidth) store) (rowOf f ++ drop ((i + 1) * rowWidth) store) (i * rowWidth) before)
+
+  -- the rows above
+  pub with-above : (k : ℕ) → i < k → drop (k * rowWidth) (storeWith store i f) ≡ drop (k * rowWidth) store
+  with-above k l =
+      let m = k * rowWidth - (i + 1) * rowWidth in
+      let there : k * rowWidth ≡ length (take (i * rowWidth) store) + (rowWidth + m) = omega (arith, before) in
+      let back : (i + 1) * rowWidth + m ≡ k * rowWidth = omega arith in
+      ap (λ (n : ℕ). drop n (storeWith store i f)) there
+      ∙ drop-append-add (take (i * rowWidth) store) _ (rowWidth + m)
+      ∙ drop-append-add (rowOf f) (drop ((i + 1) * rowWidth) store) m
+      ∙ drop-drop m ((i + 1) * rowWidth) store
+      ∙ ap (λ (n : ℕ). drop n store) back
+
+  pub with-other : (k : ℕ) → (k ≡ i → ⊥) → rowAt (storeWith store i f) k ≡ rowAt store k
+  with-other k ne = go (ltb k i) refl
+    where
+      go : (t : Bool) → ltb k i ≡ t → rowAt (storeWith store i f) k ≡ rowAt store k
+      go true e =
+          let l = ltb-true k i e in
+          sym (row-of-front (storeWith store i f) k) ∙ ap (drop (k * rowWidth)) (with-below (k + 1) (omega arith)) ∙ row-of-front store k
+      go false e = ap (take rowWidth) (with-above k (omega (arith, ltb-false k i e, ne)))
+
+  -- reading what was saved gives the frame back
+  pub read-saved : Ranges f → readOf (savedStore store i f) i ≡ ReadAnswer.Good f
+  unfolding readOf savedStore
+  read-saved r =
+      rw (lt-ltb i (wholeRows store) h, with-length, lt-ltb i (wholeRows store) h, with-row, good-of-frame f r, frame-of-row f (r .spent))
+
+-- row i of two stores agrees exactly where its words do
+pub rows-agree : (s t : List ℕ) (i : ℕ) → i < wholeRows s → i < wholeRows t
+    → (rowAt s i ≡ rowAt t i) ↔ ((k : ℕ) → k < rowWidth → word (rowAt s i) k ≡ word (rowAt t i) k)
+rows-agree s t i hs ht = (
+  λ e k l. ap (λ (row : List ℕ). word row k) e,
+  λ e. ext-getD 0 (rowAt s i) (rowAt t i) (row-size s i hs ∙ sym (row-size t i ht)) (λ k l. e k (omega (arith, row-size s i hs))),
+)

@@ -1,0 +1,5 @@
+pub mod Kernel
+pub mod Row
+pub mod Bounds
+pub mod Refusal
+pub mod Store

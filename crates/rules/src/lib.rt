@@ -1,0 +1,2 @@
+// What the stages do, without the machine state.
+pub mod wrapping;
