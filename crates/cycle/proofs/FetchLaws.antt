@@ -1,0 +1,40 @@
+-- Fetch: from what its parts give to what it gives. Assumes nothing.
+use Prim.Native.Nat.{ℕ}
+use mathlib.Core.Bool.{Bool, false, not, cond, _&&_}
+use mathlib.Core.Path.{_≡_}
+use mathlib.Core.List.{List, [], _∷_}
+use lib.Dec.{eqb}
+use borrow.Author.Tests.{eq-eqb, ne-eqb}
+use Rattle.u256.specs.declared.U256.{U256}
+use Rattle.frame.specs.Refusal.{firstOf, _refuses_}
+use Rattle.rules.specs.declared.Settings.{Settings}
+use Rattle.rules.specs.Registers.{emptyWord}
+use Rattle.rules.specs.Code.{superPc, subPc, codeBits}
+use Rattle.rules.specs.Code as code
+use Rattle.cycle.specs.declared.State.{State}
+use Rattle.cycle.specs.declared.Fetched.{Fetched}
+use Rattle.cycle.specs.declared.FetchAnswer.{FetchAnswer}
+use Rattle.cycle.specs.State.{isEnded, badStore}
+use Rattle.cycle.specs.Fetch.{fetchedState, codeAnswer, fetchDone, fetchOf}
+
+module _ (settings : Settings) (word : U256) (s : State) (store : List ℕ)
+    (sizes : Bool) (ez : sizes ≡ badStore settings s store)
+    (n : ℕ) (en : n ≡ firstOf ((sizes refuses 1) ∷ (not (eqb (s .stage) 0) refuses 2) ∷ ((isEnded s && s .«pending_exception») refuses 4) ∷ (false refuses 0) ∷ [])) where
+  pub refused : (n ≡ 0 → ⊥) → _≡_ {A = Fetched} (record { state = s; answer = FetchAnswer.Refused n }) (fetchOf settings word s store)
+  unfolding fetchOf
+  refused t = rw (← ez, ← en, ne-eqb n 0 t)
+
+  pub done : n ≡ 0
+      → (super : ℕ) → super ≡ superPc (s .current .pc)
+      → (wanted : Bool) → wanted ≡ code.codeWanted (isEnded s) (s .current .«code_page») (s .«previous_code_memory_page») super (s .«previous_super_pc»)
+      → (from : U256) → from ≡ cond wanted word (s .«previous_code_word»)
+      → (sub : ℕ) → sub ≡ subPc (s .current .pc)
+      → (bits : ℕ) → bits ≡ codeBits from sub
+      → (none : U256) → none ≡ emptyWord
+      → (read : U256) → read ≡ cond wanted word none
+      → (next : State) → next ≡ fetchedState s wanted read
+      → (answer : FetchAnswer) → answer ≡ codeAnswer (isEnded s) (s .«pending_exception») bits
+      → _≡_ {A = Fetched} (record { state = next; answer = answer }) (fetchOf settings word s store)
+  unfolding fetchOf fetchDone
+  done z super eu wanted ew from ef sub es bits eb none eo read er next ex answer ea =
+      rw (← ez, ← en, eq-eqb n 0 z, ea, ex, er, eo, eb, es, ef, ew, eu)

@@ -1,0 +1,3 @@
+pub mod FetchLaws
+pub mod DecodeLaws
+pub mod OperandsLaws

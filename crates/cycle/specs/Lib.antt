@@ -1,0 +1,4 @@
+pub mod State
+pub mod Fetch
+pub mod Decode
+pub mod Operands

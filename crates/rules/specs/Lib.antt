@@ -1,0 +1,7 @@
+pub mod Sizes
+pub mod Registers
+pub mod Code
+pub mod Record
+pub mod Charge
+pub mod Condition
+pub mod Address

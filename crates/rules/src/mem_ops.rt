@@ -1,0 +1,121 @@
+// Where an operand lies, after the Rust's `mem_ops.rs`.
+ghost use mathlib.Core.Path.{_≡_};
+ghost use Rattle.rules.specs.Address.{vaddrOf, isStackKind, lacksStackPage, sourceAt, destinationAt, readOf, placesOf};
+use crate::Located;
+use crate::Location;
+use crate::Places;
+use crate::Record;
+use crate::parsing;
+use crate::registers;
+use crate::wrapping;
+use u256::U256;
+
+// The low 16 bits of the register plus the immediate.
+pub fn vaddr(register: U256, imm: u16) -> u16
+    ensures { λ r. ⌜ r ≡ vaddrOf 16 register imm ⌝ }
+{
+    wrapping::wrapping_add(register.low_u16(), imm)
+}
+
+pub fn is_stack_kind(kind: u8) -> bool
+    ensures { λ r. ⌜ r ≡ isStackKind kind ⌝ }
+{
+    (kind == 2) | (kind == 3) | (kind == 5)
+}
+
+// A stack kind, and a stack page of more than 32 bits.
+pub fn lacks_stack_page(r: Record, base: u32) -> bool
+    ensures { λ b. ⌜ b ≡ lacksStackPage r base ⌝ }
+{
+    (is_stack_kind(r.source_kind) | is_stack_kind(r.destination_kind))
+        & (0xffff_ffff < (base as u64) + 1)
+}
+
+fn at(memory_type: u8, page: u32, index: u16) -> Location
+    ensures { λ r. ⌜ r ≡ Location.At «memory_type» page index ⌝ }
+{
+    Location::At {
+        memory_type,
+        page,
+        index: index as u32,
+    }
+}
+
+// A source: push/pop is a pop.
+pub fn source_at(kind: u8, stack_page: u32, code_page: u32, sp: u16, vaddr: u16) -> Located
+    ensures { λ r. ⌜ r ≡ sourceAt 16 kind «stack_page» «code_page» sp vaddr ⌝ }
+{
+    let below = wrapping::wrapping_sub(sp, vaddr);
+    match kind {
+        2 => Located {
+            location: at(1, stack_page, below),
+            sp: below,
+        },
+        3 => Located {
+            location: at(1, stack_page, below),
+            sp,
+        },
+        4 => Located {
+            location: at(2, code_page, vaddr),
+            sp,
+        },
+        5 => Located {
+            location: at(1, stack_page, vaddr),
+            sp,
+        },
+        _ => Located {
+            location: Location::None,
+            sp,
+        },
+    }
+}
+
+// A destination: push/pop is a push. Kinds 1 and 4 are refused before.
+pub fn destination_at(kind: u8, stack_page: u32, sp: u16, vaddr: u16) -> Located
+    ensures { λ r. ⌜ r ≡ destinationAt 16 kind «stack_page» sp vaddr ⌝ }
+{
+    let below = wrapping::wrapping_sub(sp, vaddr);
+    let above = wrapping::wrapping_add(sp, vaddr);
+    match kind {
+        2 => Located {
+            location: at(1, stack_page, sp),
+            sp: above,
+        },
+        3 => Located {
+            location: at(1, stack_page, below),
+            sp,
+        },
+        5 => Located {
+            location: at(1, stack_page, vaddr),
+            sp,
+        },
+        _ => Located {
+            location: Location::None,
+            sp,
+        },
+    }
+}
+
+// Nop reads nothing.
+fn read_of(nop: bool, source: Location) -> Location
+    ensures { λ r. ⌜ r ≡ readOf nop source ⌝ }
+{
+    if nop { Location::None } else { source }
+}
+
+// Source first, then destination on the changed sp.
+pub fn places(r: Record, registers: [U256; 15], stack_page: u32, code_page: u32, sp: u16) -> Places
+    ensures { λ p. ⌜ p ≡ placesOf 16 r registers «stack_page» «code_page» sp ⌝ }
+{
+    let read = vaddr(registers::select(registers, r.src0), r.imm_0);
+    let source = source_at(r.source_kind, stack_page, code_page, sp, read);
+    let written = vaddr(registers::select(registers, r.dst0), r.imm_1);
+    let destination = destination_at(r.destination_kind, stack_page, source.sp, written);
+    let from = source.location;
+    let to = destination.location;
+    Places {
+        source: read_of(parsing::is_nop(r), from),
+        destination: to,
+        sp: destination.sp,
+    }
+}

@@ -1,0 +1,82 @@
+// Records: the lists of their fields, and the choice of the one that is kept.
+ghost use mathlib.Core.Path.{_≡_};
+ghost use mathlib.Core.Bool.{cond};
+ghost use Rattle.rules.specs.Record.{goodRecord, isPanic, isNop, badRecords};
+use crate::Record;
+use crate::Records;
+
+pub fn good_record(r: Record) -> bool
+    ensures { λ b. ⌜ b ≡ goodRecord r ⌝ }
+{
+    (r.operation <= 5)
+        & (r.return_kind <= 2)
+        & (r.condition <= 7)
+        & (r.source_kind <= 5)
+        & (r.destination_kind <= 5)
+        & !(r.destination_kind == 1)
+        & !(r.destination_kind == 4)
+        & (r.src0 <= 15)
+        & (r.src1 <= 15)
+        & (r.dst0 <= 15)
+}
+
+pub fn is_panic(r: Record) -> bool
+    ensures { λ b. ⌜ b ≡ isPanic r ⌝ }
+{
+    (r.operation == 4) & (r.return_kind == 2)
+}
+
+pub fn is_nop(r: Record) -> bool
+    ensures { λ b. ⌜ b ≡ isNop r ⌝ }
+{
+    r.operation == 0
+}
+
+// Refusal 3 of decode. The last three say whether execution has ended, an exception is pending, and decode sets some flag.
+pub fn bad_records(r: Records, ended: bool, pending: bool, flagged: bool) -> bool
+    ensures { λ b. ⌜ b ≡ badRecords r ended pending flagged ⌝ }
+{
+    let plain = r.plain;
+    let panic = r.panic;
+    let nop = r.nop;
+    !good_record(plain)
+        | !good_record(panic)
+        | !good_record(nop)
+        | !is_panic(panic)
+        | !is_nop(nop)
+        | (ended & !(is_nop(plain) & !flagged))
+        | (pending & !is_panic(plain))
+}
+
+// The same record, field by field: a choice between whole structs costs a factor of three.
+fn fields(r: Record) -> Record
+    ensures { λ same. ⌜ same ≡ r ⌝ }
+{
+    Record {
+        operation: r.operation,
+        return_kind: r.return_kind,
+        condition: r.condition,
+        source_kind: r.source_kind,
+        destination_kind: r.destination_kind,
+        src0: r.src0,
+        src1: r.src1,
+        dst0: r.dst0,
+        imm_0: r.imm_0,
+        imm_1: r.imm_1,
+        price: r.price,
+        explicit_panic: r.explicit_panic,
+        kernel_only: r.kernel_only,
+        allowed_when_static: r.allowed_when_static,
+        swap: r.swap,
+        set_flags: r.set_flags,
+        to_label: r.to_label,
+        src0_may_be_pointer: r.src0_may_be_pointer,
+        src1_may_be_pointer: r.src1_may_be_pointer,
+    }
+}
+
+pub fn either(first: bool, a: Record, b: Record) -> Record
+    ensures { λ r. ⌜ r ≡ cond first a b ⌝ }
+{
+    if first { fields(a) } else { fields(b) }
+}
