@@ -45,14 +45,14 @@ fn at(memory_type: u8, page: u32, index: u16) -> Location
 pub fn source_at(kind: u8, stack_page: u32, code_page: u32, sp: u16, vaddr: u16) -> Located
     ensures { λ r. ⌜ r ≡ sourceAt 16 kind «stack_page» «code_page» sp vaddr ⌝ }
 {
-    let below = wrapping::wrapping_sub(sp, vaddr);
+    let popped = wrapping::wrapping_sub(sp, vaddr);
     match kind {
         2 => Located {
-            location: at(1, stack_page, below),
-            sp: below,
+            location: at(1, stack_page, popped),
+            sp: popped,
         },
         3 => Located {
-            location: at(1, stack_page, below),
+            location: at(1, stack_page, popped),
             sp,
         },
         4 => Located {
