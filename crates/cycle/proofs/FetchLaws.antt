@@ -8,7 +8,7 @@ use borrow.Author.Tests.{eq-eqb, ne-eqb}
 use Rattle.u256.specs.declared.U256.{U256}
 use Rattle.frame.specs.Refusal.{firstOf, _refuses_}
 use Rattle.rules.specs.declared.Settings.{Settings}
-use Rattle.rules.specs.Registers.{emptyWord}
+use Rattle.registers.specs.Registers.{emptyWord}
 use Rattle.rules.specs.Code.{superPc, subPc, codeBits}
 use Rattle.rules.specs.Code as code
 use Rattle.cycle.specs.declared.State.{State}

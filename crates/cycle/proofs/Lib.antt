@@ -1,3 +1,8 @@
 pub mod FetchLaws
 pub mod DecodeLaws
 pub mod OperandsLaws
+pub mod HelperLaws
+pub mod NearCallLaws
+pub mod RetLaws
+pub mod ArithmeticLaws
+pub mod ExecuteLaws

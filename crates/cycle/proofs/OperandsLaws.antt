@@ -1,9 +1,8 @@
 -- Operands: from what its parts give to what it gives. Assumes nothing.
 use Prim.Native.Nat.{ℕ, _+_, _%_, _^_}
 use mathlib.Core.Bool.{Bool, true, false, not, _&&_, _||_}
-use mathlib.Core.Path.{_≡_, refl, sym, _∙_, subst}
+use mathlib.Core.Path.{_≡_, sym, _∙_, subst}
 use mathlib.Core.List.{List, [], _∷_}
-use native.Mathlib.Omega.{arith}
 use native.Mathlib.Nat.{mod-eq-of-lt}
 use lib.Dec.{T, eqb, leb}
 use borrow.Author.Tests.{eq-eqb, ne-eqb, leb-false}
@@ -12,32 +11,13 @@ use Rattle.rules.specs.declared.Settings.{Settings}
 use Rattle.rules.specs.declared.Places.{Places}
 use Rattle.rules.specs.Record.{goodRecord}
 use Rattle.rules.specs.Address.{isStackKind, lacksStackPage, placesOf}
+use Rattle.rules.proofs.RefusalLaws.{clear}
 use Rattle.rules.proofs.AddressLaws.{places-page}
 use Rattle.cycle.specs.declared.State.{State}
 use Rattle.cycle.specs.declared.Addressed.{Addressed}
 use Rattle.cycle.specs.declared.OperandsAnswer.{OperandsAnswer}
 use Rattle.cycle.specs.State.{badStore}
 use Rattle.cycle.specs.Operands.{recordOf, stackPage, placesIn, addressedState, operandsDone, operandsOf}
-
--- no refusal: the last check does not hold
-clear : (a b c d : Bool) → firstOf ((a refuses 1) ∷ (b refuses 2) ∷ (c refuses 3) ∷ (d refuses 14) ∷ []) ≡ 0 → d ≡ false
-clear false false false false e = refl
-clear false false false true e = absurd (none e)
-  where
-    none : _≡_ {A = ℕ} 14 0 → ⊥
-    none e = omega arith
-clear false false true d e = absurd (none e)
-  where
-    none : _≡_ {A = ℕ} 3 0 → ⊥
-    none e = omega arith
-clear false true c d e = absurd (none e)
-  where
-    none : _≡_ {A = ℕ} 2 0 → ⊥
-    none e = omega arith
-clear true b c d e = absurd (none e)
-  where
-    none : _≡_ {A = ℕ} 1 0 → ⊥
-    none e = omega arith
 
 -- a stack page that is looked at has 32 bits
 fits : (stack past : Bool) → (stack && past) ≡ false → stack ≡ true → past ≡ false
@@ -56,7 +36,8 @@ module _ (settings : Settings) (s : State) (store : List ℕ)
   module _ (z : n ≡ 0) (page : ℕ) (eq : page ≡ (s .current .«base_memory_page» + 1) % 2 ^ 32) where
     exact : (isStackKind (recordOf s .«source_kind») || isStackKind (recordOf s .«destination_kind»)) ≡ true → page ≡ stackPage s
     exact t =
-        let none = clear sizes (not (eqb (s .stage) 2)) (not good) lacking (sym en ∙ z) in
+        let none =
+        clear ((sizes refuses 1) ∷ (not (eqb (s .stage) 2) refuses 2) ∷ (not good refuses 3) ∷ (lacking refuses 14) ∷ []) tt (sym en ∙ z) .1 .1 .1 .0 in
         eq ∙ mod-eq-of-lt (leb-false (2 ^ 32) (stackPage s) (fits _ (leb (2 ^ 32) (stackPage s)) (sym el ∙ none) t))
 
     pub done : (places : Places) → places ≡ placesOf 16 (recordOf s) (s .registers) page (s .current .«code_page») (s .current .sp)

@@ -11,7 +11,7 @@ use Rattle.rules.specs.declared.Record.{Record}
 use Rattle.rules.specs.declared.Records.{Records}
 use Rattle.rules.specs.declared.ErrorFlags.{ErrorFlags}
 use Rattle.rules.specs.declared.Location.{Location}
-use Rattle.rules.specs.Registers.{emptyWord}
+use Rattle.registers.specs.Registers.{emptyWord}
 use Rattle.rules.specs.Code.{superPc}
 use Rattle.rules.specs.Record.{badRecords}
 use Rattle.rules.specs.Charge.{priceOf, errorFlags, anyError}

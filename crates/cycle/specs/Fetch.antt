@@ -7,7 +7,7 @@ use Rattle.u256.specs.declared.U256.{U256}
 use Rattle.frame.specs.Refusal.{firstOf, _refuses_}
 use Rattle.rules.specs.declared.Settings.{Settings}
 use Rattle.rules.specs.declared.Location.{Location}
-use Rattle.rules.specs.Registers.{emptyWord}
+use Rattle.registers.specs.Registers.{emptyWord}
 use Rattle.rules.specs.Code.{superPc, subPc, codeBits}
 use Rattle.rules.specs.Code as code
 use Rattle.rules.specs.Address.{inCode}

@@ -2,3 +2,9 @@ pub mod State
 pub mod Fetch
 pub mod Decode
 pub mod Operands
+pub mod Effects
+pub mod Helpers
+pub mod NearCall
+pub mod Ret
+pub mod Arithmetic
+pub mod Execute

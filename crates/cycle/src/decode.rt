@@ -15,7 +15,6 @@ use rules::decode;
 use rules::fetch;
 use rules::parsing;
 use rules::refusal;
-use rules::registers;
 
 fn super_pc_or(has_word: bool, pc: u16, previous: u16) -> u16
     ensures { λ r. ⌜ r ≡ cond «has_word» (superPc pc) previous ⌝ }

@@ -8,7 +8,6 @@ use rules::Location;
 use rules::Settings;
 use rules::fetch;
 use rules::refusal;
-use rules::registers;
 use u256::U256;
 
 fn query_of(wanted: bool, page: u32, index: u16) -> Location

@@ -1,13 +1,19 @@
 // The machine state, and the stages of a cycle as methods on it.
+mod arithmetic;
 mod decode;
+mod execute;
 mod fetch;
+mod helpers;
+mod near_call;
 mod operands;
+mod ret;
 
 use frame::Frame;
 use frame::PubdataCost;
 use rules::ErrorFlags;
 use rules::Flags;
 use rules::Location;
+use rules::PrimitiveValue;
 use rules::Record;
 use u256::U256;
 
@@ -73,4 +79,33 @@ pub enum OperandsAnswer {
 pub struct Addressed {
     pub state: State,
     pub answer: OperandsAnswer,
+}
+
+// What is to be written to memory, if anything.
+pub enum Write {
+    None,
+    At {
+        memory_type: u8,
+        page: u32,
+        index: u32,
+        time: u32,
+        value: PrimitiveValue,
+    },
+}
+
+// What happened to the frames: closed carries its panicked bit.
+pub enum Event {
+    None,
+    Opened,
+    Closed(bool),
+}
+
+pub enum ExecuteAnswer {
+    Done { write: Write, event: Event },
+    Refused(u32),
+}
+
+pub struct Executed {
+    pub state: State,
+    pub answer: ExecuteAnswer,
 }

@@ -11,7 +11,7 @@ use Rattle.rules.specs.declared.Record.{Record}
 use Rattle.rules.specs.declared.Location.{Location}
 use Rattle.rules.specs.declared.Located.{Located}
 use Rattle.rules.specs.Address.{onStack, inCode, isStackKind, sourceAt, destinationAt, sourceOf, destinationOf, placesOf}
-use Rattle.rules.proofs.Tables.{Others}
+use Rattle.registers.proofs.Tables.{Others}
 
 module _ (kind stackPage codePage sp vaddr : ℕ) where
   pub source-pop : (below : ℕ) (l : Location) → kind ≡ 2 → below ≡ wrappingDifference 16 sp vaddr → l ≡ onStack stackPage below

@@ -7,7 +7,7 @@ use Rattle.u256.specs.declared.U256.{U256}
 use Rattle.u256.specs.U256.{valueOf, wordsOf}
 use Rattle.u256.proofs.U256Laws.{Words, words-of-value}
 use Rattle.rules.specs.Code.{codeBits}
-use Rattle.rules.proofs.Tables.{Others, beyond}
+use Rattle.registers.proofs.Tables.{Others, beyond}
 
 module _ (word : U256) (h : Words word) (sub : ℕ) where
   abbrev whole : word ≡ wordsOf (valueOf word)

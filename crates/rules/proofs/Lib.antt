@@ -1,3 +1,5 @@
-pub mod Tables
 pub mod CodeLaws
 pub mod AddressLaws
+pub mod RetLaws
+pub mod ProductLaws
+pub mod RefusalLaws

@@ -12,7 +12,7 @@ use Rattle.rules.specs.declared.Record.{Record}
 use Rattle.rules.specs.declared.Location.{Location}
 use Rattle.rules.specs.declared.Located.{Located}
 use Rattle.rules.specs.declared.Places.{Places}
-use Rattle.rules.specs.Registers.{registerOf}
+use Rattle.registers.specs.Registers.{registerOf}
 use Rattle.rules.specs.Record.{isNop}
 
 abbrev pub vaddrOf : ℕ → U256 → ℕ → ℕ

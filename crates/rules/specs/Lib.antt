@@ -1,7 +1,11 @@
 pub mod Sizes
-pub mod Registers
 pub mod Code
 pub mod Record
 pub mod Charge
 pub mod Condition
 pub mod Address
+pub mod Time
+pub mod Sources
+pub mod NearCall
+pub mod Ret
+pub mod Arithmetic

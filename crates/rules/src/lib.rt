@@ -1,11 +1,17 @@
 // What the stages do, without the machine state.
+pub mod arithmetic;
 pub mod decode;
 pub mod fetch;
 pub mod mem_ops;
+pub mod near_call;
 pub mod parsing;
 pub mod refusal;
-pub mod registers;
+pub mod ret;
+pub mod select;
+pub mod time;
 pub mod wrapping;
+
+use u256::U256;
 
 // Made by the caller, read by every stage.
 pub struct Settings {
@@ -67,6 +73,17 @@ pub enum Location {
         page: u32,
         index: u32,
     },
+}
+
+pub struct PrimitiveValue {
+    pub value: U256,
+    pub is_pointer: bool,
+}
+
+// The operands of an instruction, after the swap.
+pub struct Sources {
+    pub src0: PrimitiveValue,
+    pub src1: PrimitiveValue,
 }
 
 // A location, and sp after it.

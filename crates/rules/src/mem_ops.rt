@@ -6,7 +6,6 @@ use crate::Location;
 use crate::Places;
 use crate::Record;
 use crate::parsing;
-use crate::registers;
 use crate::wrapping;
 use u256::U256;
 

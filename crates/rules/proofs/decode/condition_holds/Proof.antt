@@ -2,7 +2,7 @@ use mathlib.Core.Bool.{false}
 use native.Mathlib.Omega.{arith}
 use borrow.Author.Needs.{needs}
 use Rattle.rules.specs.Condition.{conditions}
-use Rattle.rules.proofs.Tables.{beyond, default}
+use Rattle.registers.proofs.Tables.{beyond, default}
 use Rattle.rules.proofs.decode.condition_holds.Statement.{statement}
 use Rattle.rules.proofs.decode.condition_holds.Tie as tie
 

@@ -1,7 +1,7 @@
 use borrow.Author.Needs.{needs}
-use Rattle.rules.proofs.Tables as laws
-use Rattle.rules.proofs.registers.select.Statement.{statement}
-use Rattle.rules.proofs.registers.select.Tie as tie
+use Rattle.registers.proofs.Tables as laws
+use Rattle.registers.proofs.select.Statement.{statement}
+use Rattle.registers.proofs.select.Tie as tie
 
 array-copy-out-result : tie.Need-array-copy-out-result
 array-copy-out-result c = search needs
@@ -97,7 +97,7 @@ returns-15 : tie.Need-returns-15
 returns-15 c = search laws.selected
 
 returns-16 : tie.Need-returns-16
-returns-16 c = laws.unselected (c .before .before .args .t1) (c .before .before .args .n) _ (search needs) (c .empty-word .ensures) (c .before .match .rest)
+returns-16 c = laws.unselected _ (c .before .before .args .t1) (c .before .before .args .n) _ (search needs) (c .empty-word .ensures) (c .before .match .rest)
 
 pub select-spec : {M : Type 1} → statement M
 select-spec =

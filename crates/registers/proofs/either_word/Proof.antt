@@ -1,5 +1,5 @@
-use Rattle.rules.proofs.registers.either_word.Statement.{statement}
-use Rattle.rules.proofs.registers.either_word.Tie as tie
+use Rattle.registers.proofs.either_word.Statement.{statement}
+use Rattle.registers.proofs.either_word.Tie as tie
 
 returns : tie.Need-returns
 returns c = rw (c .if1 .taken)

@@ -1,0 +1,80 @@
+-- Near call: from what its parts give to what it gives. Assumes nothing.
+use Prim.Native.Nat.{ℕ, _+_, _-_, _/_, _^_, _≤_, _<_}
+use mathlib.Core.Bool.{Bool, false, _||_}
+use mathlib.Core.Path.{_≡_, sym, _∙_}
+use mathlib.Core.List.{List, [], _∷_}
+use native.Mathlib.Omega.{arith}
+use lib.Dec.{eqb, ltb}
+use lib.ListN.{length}
+use borrow.Author.Tests.{eq-eqb, ne-eqb, eqb-false, ltb-false, lt-ltb}
+use Rattle.frame.specs.declared.Frame.{Frame}
+use Rattle.frame.specs.declared.SaveAnswer.{SaveAnswer}
+use Rattle.frame.specs.declared.PubdataCost.{PubdataCost}
+use Rattle.frame.specs.Refusal.{_refuses_}
+use Rattle.frame.specs.Row.{rowWidth}
+use Rattle.frame.specs.Store.{wholeRows, saveOf, savedStore, storeWith}
+use Rattle.rules.specs.declared.Settings.{Settings}
+use Rattle.rules.specs.declared.Flags.{Flags}
+use Rattle.rules.specs.NearCall.{wantedErgs, passedErgs, callerOf, openedOf}
+use Rattle.rules.specs.Time.{nextPc, timeAfter}
+use Rattle.rules.proofs.RefusalLaws.{clear}
+use Rattle.cycle.specs.declared.State.{State}
+use Rattle.cycle.specs.declared.Write.{Write}
+use Rattle.cycle.specs.declared.Event.{Event}
+use Rattle.cycle.specs.declared.Executed.{Executed}
+use Rattle.cycle.specs.declared.ExecuteAnswer.{ExecuteAnswer}
+use Rattle.cycle.specs.State.{isEnded, badStore}
+use Rattle.cycle.specs.Effects.{noFlags, finishedState, switchedState}
+use Rattle.cycle.specs.Helpers.{lateIn, refusedWith}
+use Rattle.cycle.specs.NearCall.{callRefusal, nearCallDone, nearCallOf, nearCallStore}
+use Rattle.cycle.proofs.HelperLaws.{or-parts, InTime, in-time}
+
+-- below the limit a row is free, and the depth has room
+room : (limit depth words : ℕ) → (eqb limit 0 || ltb (words / rowWidth) limit || ltb limit depth) ≡ false → (depth ≡ limit → ⊥)
+    → (depth < words / rowWidth) × (depth < limit)
+room limit depth words e n =
+    let p = or-parts (eqb limit 0 || ltb (words / rowWidth) limit) (ltb limit depth) e in
+    let q = or-parts (eqb limit 0) (ltb (words / rowWidth) limit) (p .0) in
+    omega (arith, ltb-false (words / rowWidth) limit (q .1), ltb-false limit depth (p .1), n)
+
+module _ (settings : Settings) (want : ℕ) (s : State) (store : List ℕ) (late : Bool) (el : late ≡ lateIn settings s)
+    (n : ℕ) (en : n ≡ callRefusal (eqb (s .depth) (settings .«depth_limit»)) late) where
+  pub refused : (n ≡ 0 → ⊥) → (refusedWith s n ≡ nearCallOf settings want s) × (store ≡ nearCallStore settings want s store)
+  unfolding nearCallOf nearCallStore
+  refused t = (rw (← el, ← en, ne-eqb n 0 t), rw (← el, ← en, ne-eqb n 0 t))
+
+  module _ (z : n ≡ 0) where
+    pub timely : InTime settings s
+    timely =
+        in-time settings s late el
+        (clear ((eqb (s .depth) (settings .«depth_limit») refuses 9) ∷ (late refuses 14) ∷ []) tt (sym en ∙ z) .1 .0)
+
+    free : badStore settings s store ≡ false → (s .depth < wholeRows store) × (s .depth < settings .«depth_limit»)
+    free b =
+        room (settings .«depth_limit») (s .depth) (length store) b
+        (eqb-false (s .depth) (settings .«depth_limit») (clear ((eqb (s .depth) (settings .«depth_limit») refuses 9) ∷ (late refuses 14) ∷ []) tt (sym en ∙ z) .0))
+
+    pub deeper : badStore settings s store ≡ false → settings .«depth_limit» < 2 ^ 32 → s .depth + 1 < 2 ^ 32
+    deeper b h = let k = free b .1 in omega arith
+
+    pub done : badStore settings s store ≡ false
+        → (wanted : ℕ) → wanted ≡ wantedErgs want (settings .«near_call_multiplier»)
+        → (passed : ℕ) → passed ≡ passedErgs wanted (s .current .«ergs_remaining»)
+        → (pc : ℕ) → pc ≡ nextPc 16 (s .current .pc) (isEnded s)
+        → (left : ℕ) → left ≡ s .current .«ergs_remaining» - passed
+        → (caller : Frame) → caller ≡ callerOf (s .current) left pc
+        → (after : List ℕ) → after ≡ savedStore store (s .depth) caller
+        → (opened : Frame) → opened ≡ openedOf caller passed (s .kept .instruction .«imm_0») (s .kept .instruction .«imm_1»)
+        → (time : ℕ) → time ≡ timeAfter (s .timestamp) (settings .«time_step») (isEnded s)
+        → (counter : ℕ) → counter ≡ s .«monotonic_cycle_counter» + 1
+        → (base : State) → base ≡ finishedState s time counter
+        → (depth : ℕ) → depth ≡ s .depth + 1
+        → (flags : Flags) → flags ≡ noFlags
+        → (next : State) → next ≡ switchedState base opened depth flags (s .«pubdata_revert_counter»)
+        → (_≡_ {A = Executed} (record { state = next; answer = ExecuteAnswer.Done Write.None Event.Opened }) (nearCallOf settings want s))
+        × (after ≡ nearCallStore settings want s store)
+    unfolding nearCallOf nearCallDone nearCallStore savedStore
+    done b wanted ew passed ep pc epc left ef caller ec after ea opened eo time et counter ek base eb depth ed flags eg next ex = (
+      rw (← el, ← en, eq-eqb n 0 z, ex, eb, eo, ed, eg, et, ek, ec, ef, ep, ew, epc),
+      rw (← el, ← en, eq-eqb n 0 z, ea, lt-ltb (s .depth) (wholeRows store) (free b .0), ec, ef, ep, ew, epc),
+    )

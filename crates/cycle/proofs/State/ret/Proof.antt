@@ -1,0 +1,79 @@
+use borrow.Author.Needs.{needs}
+use Rattle.cycle.proofs.RetLaws as laws
+use Rattle.cycle.proofs.State.ret.Statement.{statement}
+use Rattle.cycle.proofs.State.ret.Tie as tie
+
+return-refusal-requires : tie.Need-return-refusal-requires
+return-refusal-requires c κs = search needs
+
+returns : tie.Need-returns
+returns c =
+    let p1 = c .before in
+    let p3 = p1 .before .before in
+    let a = p3 .args in
+    laws.refused (a .settings) (a .self) (a .store .now) _ (p1 .return-refusal .ensures) (c .if1 .taken)
+
+less-requires : tie.Need-less-requires
+less-requires c κs = search needs
+
+read-frame-requires : tie.Need-read-frame-requires
+read-frame-requires c κs = search needs
+
+enum-known-row : tie.Need-enum-known-row
+enum-known-row c = search needs
+
+close-requires : tie.Need-close-requires
+close-requires c κs = search needs
+
+enum-told : tie.Need-enum-told
+enum-told c = search needs
+
+enum-told-2 : tie.Need-enum-told-2
+enum-told-2 c = search needs
+
+returns-2 : tie.Need-returns-2
+returns-2 c =
+    let p2 = c .before .before in
+    let p4 = p2 .before .before in
+    let p5 = p4 .before in
+    let p6 = p5 .before in
+    let p7 = p6 .before in
+    let p9 = p7 .before .before in
+    let a = p9 .args in
+    laws.good (a .settings) (a .self) (a .store .now) _ (p7 .return-refusal .ensures) (p6 .if1 .left) _ (p5 .less .ensures) _ (p4 .read-frame .ensures) _ (p2 .row .given .1) _ (c .close .ensures)
+
+returns-3 : tie.Need-returns-3
+returns-3 c =
+    let p2 = c .before .before in
+    let p3 = p2 .before in
+    let p4 = p3 .before in
+    let p5 = p4 .before in
+    let p7 = p5 .before .before in
+    let a = p7 .args in
+    laws.missing (a .settings) (a .self) (a .store .now) _ (p5 .return-refusal .ensures) (p4 .if1 .left) _ (p3 .less .ensures) _ (p2 .read-frame .ensures) (c .enum-told .given .1)
+
+returns-4 : tie.Need-returns-4
+returns-4 c =
+    let p2 = c .before .before in
+    let p3 = p2 .before in
+    let p4 = p3 .before in
+    let p5 = p4 .before in
+    let p7 = p5 .before .before in
+    let a = p7 .args in
+    laws.not-good (a .settings) (a .self) (a .store .now) _ (p5 .return-refusal .ensures) (p4 .if1 .left) _ (p3 .less .ensures) _ (p2 .read-frame .ensures) (c .enum-told2 .given .1)
+
+pub ret-spec : {M : Type 1} → statement M
+ret-spec =
+    tie.close
+    (tie.spec
+    return-refusal-requires
+    returns
+    less-requires
+    read-frame-requires
+    enum-known-row
+    close-requires
+    enum-told
+    enum-told-2
+    returns-2
+    returns-3
+    returns-4)

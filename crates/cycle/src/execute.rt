@@ -1,0 +1,77 @@
+// Execute, from the Rust's `cycle`.
+ghost use mathlib.Core.Path.{_≡_};
+ghost use Rattle.cycle.specs.Execute.{executeRefusal, executeOf, executeStore};
+use crate::ExecuteAnswer;
+use crate::Executed;
+use crate::State;
+use rules::Settings;
+use rules::parsing;
+use rules::refusal;
+use rules::select;
+use u256::U256;
+
+// Refusals 1 to 6.
+fn execute_refusal(sizes: bool, turn: bool, bad: bool, other: bool, pointer: bool) -> u32
+    ensures { λ r. ⌜ r ≡ executeRefusal sizes turn bad other pointer ⌝ }
+{
+    if sizes {
+        1
+    } else if turn {
+        2
+    } else if bad {
+        3
+    } else if other {
+        5
+    } else if pointer {
+        6
+    } else {
+        0
+    }
+}
+
+impl State {
+    // The word and its pointer bit are looked at only where operands gave a source location.
+    pub fn execute(
+        self,
+        settings: Settings,
+        store: &mut [u32],
+        word: U256,
+        pointer: bool,
+    ) -> Executed
+        ensures { λ r. ⌜ (r ≡ executeOf settings word pointer self (now (store .entry)))
+            × (now (store .exit) ≡ executeStore settings word pointer self (now (store .entry))) ⌝ }
+    {
+        let kept = self.kept;
+        let instruction = kept.instruction;
+        let words = self.registers;
+        let pointers = self.pointers;
+        let f = self.current;
+        let sources = select::sources(instruction, words, pointers, word, pointer);
+        let src0 = sources.src0;
+        let src1 = sources.src1;
+        let operation = instruction.operation;
+        let sizes = refusal::bad_sizes(settings.depth_limit, self.depth, store.len());
+        let bad = !parsing::good_record(instruction);
+        let held = select::pointer_refused(
+            f.is_kernel_mode(),
+            instruction,
+            src0.is_pointer,
+            src1.is_pointer,
+        );
+        let n = execute_refusal(sizes, !(self.stage == 3), bad, operation == 5, held);
+        if n != 0 {
+            return Executed {
+                state: self,
+                answer: ExecuteAnswer::Refused(n),
+            };
+        }
+        let a = src0.value;
+        let b = src1.value;
+        match operation {
+            0 => self.nop(settings),
+            1 | 2 => self.arithmetic(settings, a, b),
+            3 => self.near_call(settings, a.low_u32(), store),
+            _ => self.ret(settings, store),
+        }
+    }
+}

@@ -1,0 +1,185 @@
+// What the operations of execute share, after the Rust's `helpers.rs`.
+ghost use mathlib.Core.Path.{_≡_};
+ghost use mathlib.Core.Bool.{true, false};
+ghost use Prim.Native.Nat.{_+_, _^_, _<_};
+ghost use Rattle.rules.specs.Time.{timeAfter};
+ghost use Rattle.cycle.specs.Effects.{noFlags, finishedState, movedState, writtenState, switchedState};
+ghost use Rattle.cycle.specs.Helpers.{isStored, writeOf, nopOf};
+use crate::Event;
+use crate::ExecuteAnswer;
+use crate::Executed;
+use crate::Kept;
+use crate::State;
+use crate::Write;
+use frame::Frame;
+use frame::PubdataCost;
+use rules::Flags;
+use rules::Location;
+use rules::PrimitiveValue;
+use rules::Record;
+use rules::Settings;
+use rules::time;
+use u256::U256;
+
+pub(crate) fn time_after(time: u32, step: u32, ended: bool) -> u32
+    requires { ⌜ (ended ≡ false → time + step < 2 ^ 32) ⌝ }
+    ensures { λ r. ⌜ r ≡ timeAfter time step ended ⌝ }
+{
+    if ended { time } else { time + step }
+}
+
+pub(crate) fn sum(a: u32, b: u32) -> u32
+    requires { ⌜ a + b < 2 ^ 32 ⌝ }
+    ensures { λ r. ⌜ r ≡ a + b ⌝ }
+{
+    a + b
+}
+
+pub(crate) fn no_flags() -> Flags
+    ensures { λ r. ⌜ r ≡ noFlags ⌝ }
+{
+    Flags {
+        overflow_or_less_than_flag: false,
+        equality_flag: false,
+        greater_than_flag: false,
+    }
+}
+
+pub(crate) fn is_stored(location: Location) -> bool
+    ensures { λ r. ⌜ r ≡ isStored location ⌝ }
+{
+    match location {
+        Location::None => false,
+        Location::At {
+            memory_type: _,
+            page: _,
+            index: _,
+        } => true,
+    }
+}
+
+// A write carries time plus 3.
+pub(crate) fn write_of(location: Location, time: u32, value: PrimitiveValue) -> Write
+    requires { ⌜ (isStored location ≡ true → time + 3 < 2 ^ 32) ⌝ }
+    ensures { λ r. ⌜ r ≡ writeOf location time value ⌝ }
+{
+    let Location::At {
+        memory_type,
+        page,
+        index,
+    } = location
+    else {
+        return Write::None;
+    };
+    Write::At {
+        memory_type,
+        page,
+        index,
+        time: time + 3,
+        value,
+    }
+}
+
+impl State {
+    // Ready for the next cycle.
+    pub(crate) fn finished(mut self, time: u32, counter: u32) -> State
+        ensures { λ r. ⌜ r ≡ finishedState self time counter ⌝ }
+    {
+        let instruction = Record {
+            operation: 0,
+            return_kind: 0,
+            condition: 0,
+            source_kind: 0,
+            destination_kind: 0,
+            src0: 0,
+            src1: 0,
+            dst0: 0,
+            imm_0: 0,
+            imm_1: 0,
+            price: 0,
+            explicit_panic: false,
+            kernel_only: false,
+            allowed_when_static: false,
+            swap: false,
+            set_flags: false,
+            to_label: false,
+            src0_may_be_pointer: false,
+            src1_may_be_pointer: false,
+        };
+        let kept = Kept {
+            instruction,
+            write: Location::None,
+        };
+        self.timestamp = time;
+        self.monotonic_cycle_counter = counter;
+        self.kept = kept;
+        self.stage = 0;
+        self
+    }
+
+    pub(crate) fn moved(mut self, pc: u16) -> State
+        ensures { λ r. ⌜ r ≡ movedState self pc ⌝ }
+    {
+        self.current.pc = pc;
+        self
+    }
+
+    pub(crate) fn written(mut self, flags: Flags, n: u8, word: U256) -> State
+        ensures { λ r. ⌜ r ≡ writtenState self flags n word ⌝ }
+    {
+        let old_words = self.registers;
+        let old_pointers = self.pointers;
+        let words = registers::update(old_words, n, word);
+        let pointers = registers::update_pointer(old_pointers, n, false);
+        self.registers = words;
+        self.pointers = pointers;
+        self.flags = flags;
+        self
+    }
+
+    pub(crate) fn switched(
+        mut self,
+        f: Frame,
+        depth: u32,
+        flags: Flags,
+        counter: PubdataCost,
+    ) -> State
+        ensures { λ r. ⌜ r ≡ switchedState self f depth flags counter ⌝ }
+    {
+        self.current = f;
+        self.depth = depth;
+        self.flags = flags;
+        self.pubdata_revert_counter = counter;
+        self
+    }
+
+    // Nop sets pc only.
+    pub(crate) fn nop(self, settings: Settings) -> Executed
+        ensures { λ r. ⌜ r ≡ nopOf settings self ⌝ }
+    {
+        let ended = self.depth == 0;
+        let late = time::is_late(
+            self.timestamp,
+            settings.time_step,
+            self.monotonic_cycle_counter,
+            ended,
+        );
+        if late {
+            return Executed {
+                state: self,
+                answer: ExecuteAnswer::Refused(14),
+            };
+        }
+        let pc = time::next_pc(self.current.pc, ended);
+        let after = time_after(self.timestamp, settings.time_step, ended);
+        let counter = sum(self.monotonic_cycle_counter, 1);
+        let next = self.finished(after, counter).moved(pc);
+        Executed {
+            state: next,
+            answer: ExecuteAnswer::Done {
+                write: Write::None,
+                event: Event::None,
+            },
+        }
+    }
+}
