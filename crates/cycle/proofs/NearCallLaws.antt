@@ -30,7 +30,7 @@ use Rattle.cycle.specs.NearCall.{callRefusal, nearCallDone, nearCallOf, 
 use Rattle.cycle.proofs.HelperLaws.{or-parts, InTime, in-time}
 
 -- below the limit a row is free, and the depth has room
-room : (limit depth words : ℕ) → (eqb limit 0 || ltb (words / rowWidth) limit || ltb limit depth) ≡ false → (depth ≡ limit → ⊥)
+pub room : (limit depth words : ℕ) → (eqb limit 0 || ltb (words / rowWidth) limit || ltb limit depth) ≡ false → (depth ≡ limit → ⊥)
     → (depth < words / rowWidth) × (depth < limit)
 room limit depth words e n =
     let p = or-parts (eqb limit 0 || ltb (words / rowWidth) limit) (ltb limit depth) e in

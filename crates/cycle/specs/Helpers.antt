@@ -40,5 +40,8 @@ nopDone settings s = record {
   answer = ExecuteAnswer.Done Write.None Event.None;
 }
 
+abbrev pub nopRefusal : Settings → State → ℕ
+nopRefusal settings s = firstOf ((lateIn settings s refuses 14) ∷ [])
+
 unfoldable pub nopOf : Settings → State → Executed
-nopOf settings s = settled (firstOf ((lateIn settings s refuses 14) ∷ [])) (refusedWith s) (nopDone settings s)
+nopOf settings s = settled (nopRefusal settings s) (refusedWith s) (nopDone settings s)

@@ -1,0 +1,1 @@
+// The claims about lists of stage calls, for the cycle core.

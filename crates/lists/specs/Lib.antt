@@ -1,0 +1,4 @@
+pub mod Machine
+pub mod Lists
+pub mod Laws
+pub mod Claims
