@@ -1,5 +1,5 @@
 -- Execute of the cycle core as a stage of a machine, by its operations. Assumes nothing.
-use Prim.Native.Nat.{ℕ, suc, _+_, _-_, _*_, _≤_, _<_}
+use Prim.Native.Nat.{ℕ, suc, _+_, _-_, _^_, _≤_, _<_}
 use mathlib.Core.Bool.{Bool, true, false, not, cond, _&&_, _||_}
 use mathlib.Core.Path.{_≡_, refl, ap, sym, _∙_, subst}
 use mathlib.Core.List.{List, [], _∷_}
@@ -15,7 +15,7 @@ use Rattle.frame.specs.declared.Frame.{Frame}
 use Rattle.frame.specs.declared.ReadAnswer.{ReadAnswer}
 use Rattle.frame.specs.Fields.{withPc}
 use Rattle.frame.specs.Kernel.{kernelMode}
-use Rattle.frame.specs.Refusal.{_refuses_}
+use Rattle.frame.specs.Refusal.{Check, firstOf, _refuses_}
 use Rattle.frame.specs.Row.{rowWidth, frameOf, goodRow}
 use Rattle.frame.specs.Store.{wholeRows, rowAt, storeWith, readOf}
 use Rattle.frame.proofs.StoreLaws.{with-row, with-below}
@@ -23,7 +23,7 @@ use Rattle.rules.specs.declared.Settings.{Settings}
 use Rattle.rules.specs.Record.{goodRecord}
 use Rattle.rules.specs.Sources.{pointerRefused}
 use Rattle.rules.specs.NearCall.{wantedErgs, passedErgs, callerOf, openedOf}
-use Rattle.rules.specs.Ret.{resumedOf}
+use Rattle.rules.specs.Ret.{isOutside, isBadCounter, ergsPast, isShrunk, resumedOf}
 use Rattle.rules.proofs.RefusalLaws.{clear}
 use Rattle.cycle.specs.declared.State.{State}
 use Rattle.cycle.specs.declared.Executed.{Executed}
@@ -31,9 +31,9 @@ use Rattle.cycle.specs.declared.ExecuteAnswer.{ExecuteAnswer}
 use Rattle.cycle.specs.State.{isEnded, badStore, outOfTurn, addressed}
 use Rattle.cycle.specs.Effects.{finishedState, movedState, writtenState, switchedState}
 use Rattle.cycle.specs.Operands.{recordOf}
-use Rattle.cycle.specs.Helpers.{lateIn, refusedWith, nopRefusal, nopDone, nopOf}
+use Rattle.cycle.specs.Helpers.{lateIn, refusedWith, isStored, nopRefusal, nopDone, nopOf}
 use Rattle.cycle.specs.NearCall.{callRefusal, callRefusalIn, passedIn, callerIn, nearCallDone, nearCallOf, nearCallStore}
-use Rattle.cycle.specs.Ret.{returnRefusal, closeRefusalIn, closeDone, closeOf, returnTo, returnOf}
+use Rattle.cycle.specs.Ret.{pubdataIn, counterIn, returnRefusal, closeRefusalIn, closeDone, closeOf, returnTo, returnOf}
 use Rattle.cycle.specs.Arithmetic.{arithmeticRefusalIn, arithmeticDone, arithmeticOf}
 use Rattle.cycle.specs.Execute.{sourcesIn, executeRefusalIn, wantIn, executeDone, executeOf, executeStore}
 use Rattle.cycle.proofs.NearCallLaws.{room}
@@ -42,7 +42,8 @@ use Rattle.lists.specs.Machine.{Outcome}
 use Rattle.lists.specs.Lists.{execute}
 use Rattle.lists.specs.Laws.{Advances, Performs, Spends}
 use Rattle.calls.specs.Core.{core, ExecuteInput, executeRefused, executeOutcome, stageOf, operationOf}
-use Rattle.calls.proofs.Views.{View, refused, done, by-number, both}
+use Rattle.calls.specs.Answers.{isOneOf, executeNumbers}
+use Rattle.calls.proofs.Views.{View, refused, done, by-number, both, within, numbersIn, listed}
 use Rattle.calls.proofs.Stages.{turn}
 
 -- a near call passes no more than is held
@@ -84,12 +85,16 @@ module _ (x : ExecuteInput) (s : State) (store : List ℕ) (at : stageOf (s .sta
 
   abbrev Viewed : Executed → List ℕ → Type 0
   Viewed r after =
-      View s store (outcome r after) (Advances core (execute x) s (outcome r after) × Performs core (core .kept s) x s store (outcome r after))
+      View executeNumbers s store (outcome r after) (Advances core (execute x) s (outcome r after) × Performs core (core .kept s) x s store (outcome r after))
 
-  -- a refusal with any number
-  unchanged : (n : ℕ) → Viewed (refusedWith s n) store
+  -- a refusal with one of execute's numbers
+  unchanged : (n : ℕ) → isOneOf n executeNumbers ≡ true → Viewed (refusedWith s n) store
   unfolding outcome
-  unchanged n = refused refl (record { state-same = refl; store-same = refl })
+  unchanged n m = refused (record { number = n; told = refl; listed = m; unchanged = record { state-same = refl; store-same = refl } })
+
+  -- by the checks of an operation
+  checked : (cs : List Check) → T (within (numbersIn cs) executeNumbers) → (firstOf cs ≡ 0 → ⊥) → Viewed (refusedWith s (firstOf cs)) store
+  checked cs t h = unchanged (firstOf cs) (listed cs executeNumbers t h)
 
   -- ---- nop, add and sub
   nop-view : operationOf op ≡ machines.neither → Viewed (nopOf settings s) store
@@ -100,7 +105,7 @@ module _ (x : ExecuteInput) (s : State) (store : List ℕ) (at : stageOf (s .sta
       done refl
       (record { stage-before = at; stage-after = refl },
       rw e (record { ergs-less = add-zero (s .current .«ergs_remaining»); local-same = refl; depth-same = refl; store-same = refl })))
-      (unchanged (nopRefusal settings s))
+      (checked ((lateIn settings s refuses 14) ∷ []) tt)
 
   arithmetic-view : (a b : U256) → operationOf op ≡ machines.neither → Viewed (arithmeticOf settings a b s) store
   unfolding outcome arithmeticOf arithmeticDone writtenState movedState finishedState withPc
@@ -110,7 +115,7 @@ module _ (x : ExecuteInput) (s : State) (store : List ℕ) (at : stageOf (s .sta
       done refl
       (record { stage-before = at; stage-after = refl },
       rw e (record { ergs-less = add-zero (s .current .«ergs_remaining»); local-same = refl; depth-same = refl; store-same = refl })))
-      (unchanged (arithmeticRefusalIn settings s))
+      (checked (((lateIn settings s || isStored (s .kept .write) && leb (2 ^ 32) (s .timestamp + 3)) refuses 14) ∷ []) tt)
 
   -- ---- near call
   abbrev want : ℕ
@@ -122,8 +127,7 @@ module _ (x : ExecuteInput) (s : State) (store : List ℕ) (at : stageOf (s .sta
       both Viewed (eqb (callRefusalIn settings s) 0) (nearCallDone settings want s) (refusedWith s (callRefusalIn settings s))
       (storeWith store (s .depth) (callerIn settings want s)) store
       (λ t.
-      let c =
-          clear ((eqb (s .depth) (settings .«depth_limit») refuses 9) ∷ (lateIn settings s refuses 14) ∷ []) tt (eqb-true (callRefusalIn settings s) 0 t) in
+      let c = clear checks tt (eqb-true (callRefusalIn settings s) 0 t) in
       let free : s .depth < wholeRows store =
           room (settings .«depth_limit») (s .depth) (length store) b (eqb-false (s .depth) (settings .«depth_limit») (c .0)) .0 in
       let row = with-row store (s .depth) (callerIn settings want s) free in
@@ -140,7 +144,10 @@ module _ (x : ExecuteInput) (s : State) (store : List ℕ) (at : stageOf (s .sta
         local-saved = ap (λ (l : List ℕ). frameOf l .«is_local_frame») row ∙ bit-back (s .current .«is_local_frame»);
         below-same = with-below store (s .depth) (callerIn settings want s) free (s .depth) (omega arith);
       })))
-      (unchanged (callRefusalIn settings s))
+      (λ f. checked checks tt (eqb-false (callRefusalIn settings s) 0 f))
+    where
+      checks : List Check
+      checks = (eqb (s .depth) (settings .«depth_limit») refuses 9) ∷ (lateIn settings s refuses 14) ∷ []
 
   -- ---- return
   close-view : operationOf op ≡ machines.ret → (s .depth ≡ 0 → ⊥) → (row : ReadAnswer) → readOf store (s .depth - 1) ≡ row → Viewed (returnTo settings s row) store
@@ -158,12 +165,18 @@ module _ (x : ExecuteInput) (s : State) (store : List ℕ) (at : stageOf (s .sta
         ergs-back = λ l. ap (λ (f : Frame). f .«ergs_remaining» + s .current .«ergs_remaining») read;
         store-same = refl;
       })))
-      (unchanged (closeRefusalIn settings caller s))
+      (checked
+      ((isOutside (pubdataIn s caller) refuses 10)
+      ∷ (isBadCounter (counterIn s) refuses 11)
+      ∷ (ergsPast (caller .«ergs_remaining») (s .current .«ergs_remaining») refuses 12)
+      ∷ (isShrunk caller (s .current) refuses 13)
+      ∷ (lateIn settings s refuses 14)
+      ∷ []) tt)
     where
       down : (n : ℕ) → (n ≡ 0 → ⊥) → n ≡ suc (n - 1)
       down n h = omega arith
-  close-view e d ReadAnswer.Missing q = unchanged 8
-  close-view e d ReadAnswer.NotGood q = unchanged 8
+  close-view e d ReadAnswer.Missing q = unchanged 8 refl
+  close-view e d ReadAnswer.NotGood q = unchanged 8 refl
 
   return-view : operationOf op ≡ machines.ret → Viewed (returnOf settings s store) store
   unfolding returnOf
@@ -171,9 +184,12 @@ module _ (x : ExecuteInput) (s : State) (store : List ℕ) (at : stageOf (s .sta
       by-number (λ r. Viewed r store) (returnRefusal (s .current .«is_local_frame») (s .depth)) (refusedWith s)
       (returnTo settings s (readOf store (s .depth - 1)))
       (λ z.
-      let c = clear ((not (s .current .«is_local_frame») refuses 7) ∷ (eqb (s .depth) 0 refuses 8) ∷ []) tt z in
+      let c = clear checks tt z in
       close-view e (eqb-false (s .depth) 0 (c .1 .0)) (readOf store (s .depth - 1)) refl)
-      (unchanged (returnRefusal (s .current .«is_local_frame») (s .depth)))
+      (checked checks tt)
+    where
+      checks : List Check
+      checks = (not (s .current .«is_local_frame») refuses 7) ∷ (eqb (s .depth) 0 refuses 8) ∷ []
 
 -- ---- the choice of the operation
 first : (a b c d e f g h i j : Bool) → (a && b && c && d && e && f && g && h && i && j) ≡ true → a ≡ true
@@ -221,33 +237,41 @@ clashing : {A : Type 0} → _≡_ {A = Bool} true false → A
 clashing e = absurd (subst T e tt)
 
 pub execute-view : (x : ExecuteInput) (s : State) (store : List ℕ)
-    → View s store (executeOutcome x s store)
+    → View executeNumbers s store (executeOutcome x s store)
     (Advances core (execute x) s (executeOutcome x s store) × Performs core (core .kept s) x s store (executeOutcome x s store))
 unfolding executeOf executeStore executeDone outcome
 execute-view x s store =
     both P (eqb n 0) (executeDone (x .settings) (x .word) (x .pointer) s store) (refusedWith s n)
     (cond (eqb o 3) (nearCallStore (x .settings) (wantIn (x .word) (x .pointer) s) s store) store) store
     (λ t.
-    let c =
-        clear
-        ((badStore (x .settings) s store refuses 1)
-        ∷ (outOfTurn addressed s refuses 2)
-        ∷ (not (goodRecord (recordOf s)) refuses 3)
-        ∷ (eqb o 5 refuses 5)
-        ∷ (pointerRefused (kernelMode (s .current)) (recordOf s) (sourcesIn (x .word) (x .pointer) s .src0 .«is_pointer») (sourcesIn (x .word) (x .pointer) s .src1 .«is_pointer»)
-        refuses 6)
-        ∷ []) tt (eqb-true n 0 t) in
+    let c = clear checks tt (eqb-true n 0 t) in
     chosen (turn (s .stage) 3 (c .1 .0)) (c .0) (small (not-false (goodRecord (recordOf s)) (c .1 .1 .0))) (c .1 .1 .1 .0) (eqb o 0) (eqb o 1 || eqb o 2) (eqb o 3) refl refl
     refl)
-    (refused refl (record { state-same = refl; store-same = refl }))
+    (λ f.
+    refused
+    (record {
+      number = n;
+      told = refl;
+      listed = listed checks executeNumbers tt (eqb-false n 0 f);
+      unchanged = record { state-same = refl; store-same = refl };
+    }))
   where
     o : ℕ
     o = s .kept .instruction .operation
     n : ℕ
     n = executeRefusalIn (x .settings) (x .word) (x .pointer) s store
+    checks : List Check
+    checks =
+        (badStore (x .settings) s store refuses 1)
+        ∷ (outOfTurn addressed s refuses 2)
+        ∷ (not (goodRecord (recordOf s)) refuses 3)
+        ∷ (eqb o 5 refuses 5)
+        ∷ (pointerRefused (kernelMode (s .current)) (recordOf s) (sourcesIn (x .word) (x .pointer) s .src0 .«is_pointer») (sourcesIn (x .word) (x .pointer) s .src1 .«is_pointer»)
+        refuses 6)
+        ∷ []
     P : Executed → List ℕ → Type 0
     P r after =
-        View s store (record { refusal = executeRefused (r .answer); state = r .state; store = after })
+        View executeNumbers s store (record { refusal = executeRefused (r .answer); state = r .state; store = after })
         (Advances core (execute x) s (record { refusal = executeRefused (r .answer); state = r .state; store = after })
         × Performs core (core .kept s) x s store (record { refusal = executeRefused (r .answer); state = r .state; store = after }))
     small : goodRecord (recordOf s) ≡ true → o ≤ 5

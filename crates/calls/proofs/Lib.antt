@@ -2,3 +2,4 @@ pub mod Views
 pub mod Stages
 pub mod ExecuteView
 pub mod CoreLaws
+pub mod AnswersLaws
