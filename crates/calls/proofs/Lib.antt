@@ -3,3 +3,4 @@ pub mod Stages
 pub mod ExecuteView
 pub mod CoreLaws
 pub mod AnswersLaws
+pub mod EdgesHold

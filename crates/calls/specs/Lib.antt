@@ -1,2 +1,4 @@
 pub mod Core
 pub mod Answers
+pub mod Start
+pub mod Edges
