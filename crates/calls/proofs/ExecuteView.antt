@@ -102,9 +102,10 @@ module _ (x : ExecuteInput) (s : State) (store : List ℕ) (at : stageOf (s .sta
   nop-view e =
       by-number (λ r. Viewed r store) (nopRefusal settings s) (refusedWith s) (nopDone settings s)
       (λ z.
-      done refl
-      (record { stage-before = at; stage-after = refl },
-      rw e (record { ergs-less = add-zero (s .current .«ergs_remaining»); local-same = refl; depth-same = refl; store-same = refl })))
+      done refl (
+        record { stage-before = at; stage-after = refl },
+        rw e (record { ergs-less = add-zero (s .current .«ergs_remaining»); local-same = refl; depth-same = refl; store-same = refl }),
+      ))
       (checked ((lateIn settings s refuses 14) ∷ []) tt)
 
   arithmetic-view : (a b : U256) → operationOf op ≡ machines.neither → Viewed (arithmeticOf settings a b s) store
@@ -112,9 +113,10 @@ module _ (x : ExecuteInput) (s : State) (store : List ℕ) (at : stageOf (s .sta
   arithmetic-view a b e =
       by-number (λ r. Viewed r store) (arithmeticRefusalIn settings s) (refusedWith s) (arithmeticDone settings a b s)
       (λ z.
-      done refl
-      (record { stage-before = at; stage-after = refl },
-      rw e (record { ergs-less = add-zero (s .current .«ergs_remaining»); local-same = refl; depth-same = refl; store-same = refl })))
+      done refl (
+        record { stage-before = at; stage-after = refl },
+        rw e (record { ergs-less = add-zero (s .current .«ergs_remaining»); local-same = refl; depth-same = refl; store-same = refl }),
+      ))
       (checked (((lateIn settings s || isStored (s .kept .write) && leb (2 ^ 32) (s .timestamp + 3)) refuses 14) ∷ []) tt)
 
   -- ---- near call
@@ -129,21 +131,22 @@ module _ (x : ExecuteInput) (s : State) (store : List ℕ) (at : stageOf (s .sta
       (λ t.
       let c = clear checks tt (eqb-true (callRefusalIn settings s) 0 t) in
       let free : s .depth < wholeRows store =
-          room (settings .«depth_limit») (s .depth) (length store) b (eqb-false (s .depth) (settings .«depth_limit») (c .0)) .0 in
+      room (settings .«depth_limit») (s .depth) (length store) b (eqb-false (s .depth) (settings .«depth_limit») (c .0)) .0 in
       let row = with-row store (s .depth) (callerIn settings want s) free in
-      done refl
-      (record { stage-before = at; stage-after = refl },
-      rw e
-      (record {
-        depth-up = add-one (s .depth);
-        local-new = refl;
-        passed = refl;
-        kept-back =
-            ap (λ (l : List ℕ). frameOf l .«ergs_remaining» + passedIn settings want s) row
-            ∙ sub-add-cancel (passed-le (wantedErgs want (settings .«near_call_multiplier»)) (s .current .«ergs_remaining»));
-        local-saved = ap (λ (l : List ℕ). frameOf l .«is_local_frame») row ∙ bit-back (s .current .«is_local_frame»);
-        below-same = with-below store (s .depth) (callerIn settings want s) free (s .depth) (omega arith);
-      })))
+      done refl (
+        record { stage-before = at; stage-after = refl },
+        rw e
+            (record {
+              depth-up = add-one (s .depth);
+              local-new = refl;
+              passed = refl;
+              kept-back =
+                  ap (λ (l : List ℕ). frameOf l .«ergs_remaining» + passedIn settings want s) row
+                  ∙ sub-add-cancel (passed-le (wantedErgs want (settings .«near_call_multiplier»)) (s .current .«ergs_remaining»));
+              local-saved = ap (λ (l : List ℕ). frameOf l .«is_local_frame») row ∙ bit-back (s .current .«is_local_frame»);
+              below-same = with-below store (s .depth) (callerIn settings want s) free (s .depth) (omega arith);
+            }),
+      ))
       (λ f. checked checks tt (eqb-false (callRefusalIn settings s) 0 f))
     where
       checks : List Check
@@ -156,15 +159,16 @@ module _ (x : ExecuteInput) (s : State) (store : List ℕ) (at : stageOf (s .sta
       by-number (λ r. Viewed r store) (closeRefusalIn settings caller s) (refusedWith s) (closeDone settings caller s)
       (λ z.
       let read = read-good store (s .depth - 1) caller q in
-      done refl
-      (record { stage-before = at; stage-after = refl },
-      rw e
-      (record {
-        depth-down = down (s .depth) d;
-        local-back = ap (λ (f : Frame). f .«is_local_frame») read;
-        ergs-back = λ l. ap (λ (f : Frame). f .«ergs_remaining» + s .current .«ergs_remaining») read;
-        store-same = refl;
-      })))
+      done refl (
+        record { stage-before = at; stage-after = refl },
+        rw e
+            (record {
+              depth-down = down (s .depth) d;
+              local-back = ap (λ (f : Frame). f .«is_local_frame») read;
+              ergs-back = λ l. ap (λ (f : Frame). f .«ergs_remaining» + s .current .«ergs_remaining») read;
+              store-same = refl;
+            }),
+      ))
       (checked
       ((isOutside (pubdataIn s caller) refuses 10)
       ∷ (isBadCounter (counterIn s) refuses 11)
@@ -218,6 +222,7 @@ ret-kind o l e0 e12 e3 e5 = ap operationOf (four (eqb-false o 0 e0) (apart (eqb 
     apart false false e f q = (eqb-false o 1 e, eqb-false o 2 f)
     apart false true e f q = absurd (subst T q tt)
     apart true b e f q = absurd (subst T q tt)
+
     four : (o ≡ 0 → ⊥) → ((o ≡ 1 → ⊥) × (o ≡ 2 → ⊥)) → (o ≡ 3 → ⊥) → (o ≡ 5 → ⊥) → o ≡ 4
     four a b c d = let b1 = b .0 in let b2 = b .1 in omega arith
 
@@ -258,8 +263,10 @@ execute-view x s store =
   where
     o : ℕ
     o = s .kept .instruction .operation
+
     n : ℕ
     n = executeRefusalIn (x .settings) (x .word) (x .pointer) s store
+
     checks : List Check
     checks =
         (badStore (x .settings) s store refuses 1)
@@ -269,21 +276,26 @@ execute-view x s store =
         ∷ (pointerRefused (kernelMode (s .current)) (recordOf s) (sourcesIn (x .word) (x .pointer) s .src0 .«is_pointer») (sourcesIn (x .word) (x .pointer) s .src1 .«is_pointer»)
         refuses 6)
         ∷ []
+
     P : Executed → List ℕ → Type 0
     P r after =
         View executeNumbers s store (record { refusal = executeRefused (r .answer); state = r .state; store = after })
         (Advances core (execute x) s (record { refusal = executeRefused (r .answer); state = r .state; store = after })
         × Performs core (core .kept s) x s store (record { refusal = executeRefused (r .answer); state = r .state; store = after }))
+
     small : goodRecord (recordOf s) ≡ true → o ≤ 5
     small g =
         let r = recordOf s in
         leb-true o 5
         (first (leb (r .operation) 5) (leb (r .«return_kind») 2) (leb (r .condition) 7) (leb (r .«source_kind») 5) (leb (r .«destination_kind») 5)
         (not (eqb (r .«destination_kind») 1)) (not (eqb (r .«destination_kind») 4)) (leb (r .src0) 15) (leb (r .src1) 15) (leb (r .dst0) 15) g)
+
     a : U256
     a = sourcesIn (x .word) (x .pointer) s .src0 .value
+
     b : U256
     b = sourcesIn (x .word) (x .pointer) s .src1 .value
+
     chosen : stageOf (s .stage) ≡ machines.addressed → badStore (x .settings) s store ≡ false → o ≤ 5 → eqb o 5 ≡ false
         → (p q r : Bool) → eqb o 0 ≡ p → (eqb o 1 || eqb o 2) ≡ q → eqb o 3 ≡ r
         → P

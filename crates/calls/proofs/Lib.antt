@@ -4,3 +4,4 @@ pub mod ExecuteView
 pub mod CoreLaws
 pub mod AnswersLaws
 pub mod EdgesHold
+pub mod Example

@@ -53,13 +53,15 @@ fetch-view x s store =
     (λ z.
     let c = clear checks tt z in
     done
-    (rw (answers (isEnded s) (s .«pending_exception») _))
-    (record { stage-before = turn (s .stage) 0 (c .1 .0); stage-after = refl },
-    record { ergs-less = add-zero (s .current .«ergs_remaining»); local-same = refl; depth-same = refl; store-same = refl }))
+    (rw (answers (isEnded s) (s .«pending_exception») _)) (
+      record { stage-before = turn (s .stage) 0 (c .1 .0); stage-after = refl },
+      record { ergs-less = add-zero (s .current .«ergs_remaining»); local-same = refl; depth-same = refl; store-same = refl },
+    ))
     (λ h. refused (record { number = firstOf checks; told = refl; listed = listed checks fetchNumbers tt h; unchanged = record { state-same = refl; store-same = refl } }))
   where
     checks : List Check
     checks = (badStore (x .settings) s store refuses 1) ∷ (outOfTurn ready s refuses 2) ∷ ((isEnded s && s .«pending_exception») refuses 4) ∷ []
+
     outcome : Fetched → Outcome State
     outcome r = record { refusal = fetchRefused (r .answer); state = r .state; store = store }
 
@@ -79,10 +81,11 @@ decode-view x s store =
     (decodeRefusal (x .settings) (x .records) s store) (λ n. record { state = s; answer = DecodeAnswer.Refused n }) (decodeDone (x .settings) (x .records) s)
     (λ z.
     let c = clear checks tt z in
-    done refl
-    (record { stage-before = turn (s .stage) 1 (c .1 .0); stage-after = refl },
-    record { ergs-less = charged (s .current .«ergs_remaining») _; local-same = refl; depth-same = refl; store-same = refl },
-    refl))
+    done refl (
+      record { stage-before = turn (s .stage) 1 (c .1 .0); stage-after = refl },
+      record { ergs-less = charged (s .current .«ergs_remaining») _; local-same = refl; depth-same = refl; store-same = refl },
+      refl,
+    ))
     (λ h. refused (record { number = firstOf checks; told = refl; listed = listed checks decodeNumbers tt h; unchanged = record { state-same = refl; store-same = refl } }))
   where
     checks : List Check
@@ -91,6 +94,7 @@ decode-view x s store =
         ∷ (outOfTurn fetched s refuses 2)
         ∷ (badRecords (x .records) (isEnded s) (s .«pending_exception») (anyError (errorsOf (x .settings) (x .records) s)) refuses 3)
         ∷ []
+
     outcome : Decoded → Outcome State
     outcome r = record { refusal = decodeRefused (r .answer); state = r .state; store = store }
 
@@ -106,10 +110,11 @@ operands-view settings s store =
     (operandsRefusal settings s store) (λ n. record { state = s; answer = OperandsAnswer.Refused n }) (operandsDone 16 s)
     (λ z.
     let c = clear checks tt z in
-    done refl
-    (record { stage-before = turn (s .stage) 2 (c .1 .0); stage-after = refl },
-    record { ergs-less = add-zero (s .current .«ergs_remaining»); local-same = refl; depth-same = refl; store-same = refl },
-    refl))
+    done refl (
+      record { stage-before = turn (s .stage) 2 (c .1 .0); stage-after = refl },
+      record { ergs-less = add-zero (s .current .«ergs_remaining»); local-same = refl; depth-same = refl; store-same = refl },
+      refl,
+    ))
     (λ h. refused (record { number = firstOf checks; told = refl; listed = listed checks operandsNumbers tt h; unchanged = record { state-same = refl; store-same = refl } }))
   where
     checks : List Check
@@ -119,5 +124,6 @@ operands-view settings s store =
         ∷ (not (goodRecord (recordOf s)) refuses 3)
         ∷ (lacksStackPage (recordOf s) (s .current .«base_memory_page») refuses 14)
         ∷ []
+
     outcome : Addressed → Outcome State
     outcome r = record { refusal = operandsRefused (r .answer); state = r .state; store = store }

@@ -1,1 +1,30 @@
-// The claims about lists of stage calls, for the cycle core.
+// What is claimed of the cycle core as a whole, each claim in a contract, so that it is proved with every check.
+ghost use Rattle.lists.specs.Claims.{CallersResume, CyclesCover, FramesCounted};
+ghost use Rattle.calls.specs.Core.{core};
+ghost use Rattle.calls.specs.Answers.{EveryCallAnswers};
+ghost use Rattle.calls.specs.Edges.{edges, AllHold};
+
+// Demand 1: each call of a stage finishes, or refuses with one of its numbers and changes nothing.
+pub fn every_call_answers()
+    ensures { λ _. ⌜ EveryCallAnswers ⌝ }
+{}
+
+// Demand 3: whenever the frame of a near call closes, its caller holds what it had less the charges, no less than its share, and the frames below are as they were.
+pub fn callers_resume()
+    ensures { λ _. ⌜ CallersResume core ⌝ }
+{}
+
+// No finished call escapes demand 3 but for part of a cycle at either end of the list.
+pub fn cycles_cover()
+    ensures { λ _. ⌜ CyclesCover core ⌝ }
+{}
+
+// What demand 3 counts as opened and closed is what the depth counts.
+pub fn frames_counted()
+    ensures { λ _. ⌜ FramesCounted core ⌝ }
+{}
+
+// The edges that document 01 marks P.
+pub fn edges_hold()
+    ensures { λ _. ⌜ AllHold edges ⌝ }
+{}

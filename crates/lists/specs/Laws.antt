@@ -1,30 +1,31 @@
--- The laws of the stages: all that the proofs know of a machine. Document 01 is quoted.
+-- The laws of the stages: all that the proofs of the claims know of a machine.
 use Prim.Native.Nat.{ℕ, suc, _+_}
 use mathlib.Core.Path.{_≡_}
-use mathlib.Core.Bool.{Bool, true, false}
+use mathlib.Core.Bool.{true, false}
 use mathlib.Core.List.{List}
-use Rattle.lists.specs.Machine.{Machine, Outcome, Stage, ready, fetched, decoded, addressed, Operation, nearCall, ret, neither, finished, chargeOf, rowAt, firstRows}
+use Rattle.lists.specs.Machine.{Machine, Outcome, Stage, ready, fetched, decoded, addressed, Operation, nearCall, ret, neither}
+use Rattle.lists.specs.Machine.{finished, chargeOf, rowAt, firstRows}
 use Rattle.lists.specs.Lists.{Call, fetch, decode, operands, execute, outcomeOf}
 
 module _ (M : Machine) where
   open Machine M using (State, FetchInput, DecodeInput, OperandsInput, ExecuteInput, fetchOf, decodeOf, operandsOf, executeOf)
   open Machine M using (ergs, local, depth, stage, kept, keeps, passes, rowErgs, rowLocal)
 
-  -- "a refusal hands back the state it was given and alters no word of the frame store"
+  -- Demand 1: "a refusal hands back the state it was given and alters no word of the frame store"
   pub record Unchanged (s : State) (store : List ℕ) (o : Outcome State) : Type 0 where
     pub state-same : o .state ≡ s
     pub store-same : o .store ≡ store
 
-  -- the stage at which a call finishes, and the stage that it reaches
-  abbrev pub startsAt : Call M → Stage
-  startsAt = elim [ fetch x ↦ ready | decode x ↦ fetched | operands x ↦ decoded | execute x ↦ addressed ]
+  -- the stage that a call takes the state at, and the stage that it brings it to
+  abbrev pub takesAt : Call M → Stage
+  takesAt = elim [ fetch x ↦ ready | decode x ↦ fetched | operands x ↦ decoded | execute x ↦ addressed ]
 
-  abbrev pub reaches : Call M → Stage
-  reaches = elim [ fetch x ↦ fetched | decode x ↦ decoded | operands x ↦ addressed | execute x ↦ ready ]
+  abbrev pub bringsTo : Call M → Stage
+  bringsTo = elim [ fetch x ↦ fetched | decode x ↦ decoded | operands x ↦ addressed | execute x ↦ ready ]
 
   pub record Advances (c : Call M) (s : State) (o : Outcome State) : Type 0 where
-    pub stage-before : stage s ≡ startsAt c
-    pub stage-after : stage (o .state) ≡ reaches c
+    pub stage-before : stage s ≡ takesAt c
+    pub stage-after : stage (o .state) ≡ bringsTo c
 
   -- the current frame holds so many ergs less; whether it is local, the depth and the store stay
   pub record Spends (spent : ℕ) (s : State) (store : List ℕ) (o : Outcome State) : Type 0 where
@@ -33,8 +34,8 @@ module _ (M : Machine) where
     pub depth-same : depth (o .state) ≡ depth s
     pub store-same : o .store ≡ store
 
-  -- near call: the opened frame is local and holds what is passed; its caller is saved as the next row, with the rest
-  pub record Opens (x : ExecuteInput) (s : State) (store : List ℕ) (o : Outcome State) : Type 0 where
+  -- a near call: the opened frame is local and holds what is passed; its caller is saved as the next row, with the rest
+  pub record OpensFrame (x : ExecuteInput) (s : State) (store : List ℕ) (o : Outcome State) : Type 0 where
     pub depth-up : depth (o .state) ≡ suc (depth s)
     pub local-new : local (o .state) ≡ true
     pub passed : ergs (o .state) ≡ passes x s
@@ -42,8 +43,9 @@ module _ (M : Machine) where
     pub local-saved : rowLocal (rowAt M (o .store) (depth s)) ≡ local s
     pub below-same : firstRows M (depth s) (o .store) ≡ firstRows M (depth s) store
 
-  -- return: the caller is read from the last saved row. "A local return of any kind, panic too, adds all the ergs the closed frame holds to its caller's."
-  pub record Closes (s : State) (store : List ℕ) (o : Outcome State) : Type 0 where
+  -- a return: the caller is read from the last saved row. Document 01: "A local return of any kind, panic too, adds all the ergs the closed frame holds to its
+  -- caller's."
+  pub record ClosesFrame (s : State) (store : List ℕ) (o : Outcome State) : Type 0 where
     pub depth-down : depth s ≡ suc (depth (o .state))
     pub local-back : local (o .state) ≡ rowLocal (rowAt M store (depth (o .state)))
     pub ergs-back : local s ≡ true → ergs (o .state) ≡ rowErgs (rowAt M store (depth (o .state))) + ergs s
@@ -51,8 +53,8 @@ module _ (M : Machine) where
 
   -- what execute does, by the kept record's operation
   abbrev pub Performs : Operation → ExecuteInput → State → List ℕ → Outcome State → Type 0
-  Performs nearCall x s store o = Opens x s store o
-  Performs ret x s store o = Closes s store o
+  Performs nearCall x s store o = OpensFrame x s store o
+  Performs ret x s store o = ClosesFrame s store o
   Performs neither x s store o = Spends 0 s store o
 
   pub record Laws : Type 0 where

@@ -1,18 +1,19 @@
--- Lists of stage calls, and the cycles in them. Document 01, "Lists of stage calls", is quoted.
+-- Lists of stage calls, and the cycles in them. Quoted are document 01, "Lists of stage calls", and demand 3.
 use Prim.Native.Nat.{ℕ, _+_, _-_}
-use mathlib.Core.Bool.{Bool, cond}
-use mathlib.Core.List.{List, [], _∷_}
+use mathlib.Core.Path.{_≡_}
+use mathlib.Core.Bool.{cond}
+use mathlib.Core.List.{List, [], _∷_, _++_}
 use Rattle.lists.specs.Machine.{Machine, Outcome, Operation, nearCall, ret, neither, finished, chargeOf}
 
 -- ---- calls
--- a call of a stage, with all that it is given besides the state and the store
+-- a call of a stage, with what it is given besides the state and the store
 pub data Call (M : Machine) : Type 0 where
   fetch : M .FetchInput → Call M
   decode : M .DecodeInput → Call M
   operands : M .OperandsInput → Call M
   execute : M .ExecuteInput → Call M
 
--- a call of a list, with the state and the store that it is given
+-- a call in a list, with the state and the store that it is given
 pub data Event (M : Machine) : Type 0 where
   called : Call M → M .State → List ℕ → Event M
 
@@ -30,48 +31,58 @@ module _ (M : Machine) where
   trace [] s store = []
   trace (c ∷ cs) s store = called c s store ∷ trace cs (outcomeOf c s store .state) (outcomeOf c s store .store)
 
-  -- "all finished, in turn; refused calls may stand between": the finished ones of a list, in its order
+  -- the calls that finished; the refused ones are left out
   unfoldable pub finishedOf : List (Event M) → List (Event M)
   finishedOf [] = []
   finishedOf (called c s store ∷ es) = cond (finished (outcomeOf c s store)) (called c s store ∷ finishedOf es) (finishedOf es)
 
 -- ---- cycles
--- what a stage of a cycle is given
+-- what a call of a cycle is given
 pub record Given (State Input : Type 0) : Type 0 where
   pub input : Input
   pub state : State
   pub store : List ℕ
 
--- "A cycle is a fetch, decode, operands and execute of the list"
 pub record Cycle (M : Machine) : Type 0 where
   pub fetch : Given (M .State) (M .FetchInput)
   pub decode : Given (M .State) (M .DecodeInput)
   pub operands : Given (M .State) (M .OperandsInput)
   pub execute : Given (M .State) (M .ExecuteInput)
 
--- 1 for an operation that opens a frame, and for one that closes one
+module _ (M : Machine) where
+  open Machine M using (State)
+
+  abbrev pub eventOf : {Input : Type 0} → (Input → Call M) → Given State Input → Event M
+  eventOf stage g = called (stage (g .input)) (g .state) (g .store)
+
+  -- the calls of cycles, one cycle right after the other
+  unfoldable pub eventsOf : List (Cycle M) → List (Event M)
+  eventsOf [] = []
+  eventsOf (c ∷ cs) = eventOf fetch (c .fetch) ∷ eventOf decode (c .decode) ∷ eventOf operands (c .operands) ∷ eventOf execute (c .execute) ∷ eventsOf cs
+
+  -- "A cycle is a fetch, decode, operands and execute of the list, all finished, in turn; refused calls may stand between." These are cycles of the list, with no
+  -- other finished call between them.
+  pub record InTurn (calls : List (Call M)) (s : State) (store : List ℕ) (cycles : List (Cycle M)) : Type 0 where
+    pub earlier : List (Event M)
+    pub later : List (Event M)
+    pub found : finishedOf M (trace M calls s store) ≡ earlier ++ (eventsOf cycles ++ later)
+
+-- ---- what a cycle charges, opens, closes and keeps back
+unfoldable pub sum : {A : Type 0} → (A → ℕ) → List A → ℕ
+sum f [] = 0
+sum f (x ∷ xs) = f x + sum f xs
+
+-- how many frames an operation opens, and how many it closes
 abbrev pub opens : Operation → ℕ
 opens = elim [ nearCall ↦ 1 | ret ↦ 0 | neither ↦ 0 ]
 
 abbrev pub closes : Operation → ℕ
 closes = elim [ nearCall ↦ 0 | ret ↦ 1 | neither ↦ 0 ]
 
-unfoldable pub sum : {A : Type 0} → (A → ℕ) → List A → ℕ
-sum f [] = 0
-sum f (x ∷ xs) = f x + sum f xs
-
 module _ (M : Machine) where
   open Machine M using (State, executeOf, ergs, keeps, passes)
 
-  abbrev pub callOf : {Input : Type 0} → (Input → Call M) → Given State Input → Event M
-  callOf stage g = called (stage (g .input)) (g .state) (g .store)
-
-  -- the calls of cycles, one cycle right after the other
-  unfoldable pub callsOf : List (Cycle M) → List (Event M)
-  callsOf [] = []
-  callsOf (c ∷ cs) = callOf fetch (c .fetch) ∷ callOf decode (c .decode) ∷ callOf operands (c .operands) ∷ callOf execute (c .execute) ∷ callsOf cs
-
-  -- the state and the store before a cycle, and what it gives
+  -- the state and the store before a cycle, and what the cycle gives
   abbrev pub before : Cycle M → State
   before c = c .fetch .state
 
@@ -98,6 +109,6 @@ module _ (M : Machine) where
   unfoldable pub closed : List (Cycle M) → ℕ
   closed cs = sum (λ (c : Cycle M). closes (operation c)) cs
 
-  -- "The share kept back is the caller's ergs before that cycle, less its charge and what Execute's rule passes."
+  -- "The share kept back is the caller's ergs before that cycle, less its charge and what Execute's rule passes." (`-` stops at 0, as ergs do.)
   unfoldable pub share : Cycle M → ℕ
   share c = ergs (before c) - charge c - passes (c .execute .input) (c .execute .state)

@@ -1,4 +1,4 @@
--- Any machine of four stages over a store of rows: what lists of stage calls, and the claims about them, speak of.
+-- Machines of four stages over a store of rows. The claims about lists of stage calls are about any of them.
 use Prim.Native.Nat.{ℕ, _*_, min}
 use mathlib.Core.Bool.{Bool, true, false, cond}
 use mathlib.Core.List.{List}
@@ -10,11 +10,11 @@ use lib.ListN.{take, drop}
 pub data Stage : Type 0 where
   ready fetched decoded addressed : Stage
 
--- the operation of an instruction record, as far as frames go
+-- what a record's operation does to frames
 pub data Operation : Type 0 where
   nearCall ret neither : Operation
 
--- what a call gives: the number of its refusal, if it is refused, the state that it hands back, and the store that it leaves
+-- what a call gives: the number of its refusal, if it is refused, the state that it hands back, and the store as it leaves it
 pub record Outcome (State : Type 0) : Type 0 where
   pub refusal : Option ℕ
   pub state : State
@@ -25,7 +25,7 @@ finished o = elim (o .refusal) [ none ↦ true | some n ↦ false ]
 
 pub record Machine : Type 1 where
   pub State : Type 0
-  -- "whatever else each call is given": all that a stage takes besides the state and the store
+  -- what a call of each stage is given besides the state and the store: settings, words, records, which may differ from call to call
   pub FetchInput : Type 0
   pub DecodeInput : Type 0
   pub OperandsInput : Type 0
@@ -34,18 +34,18 @@ pub record Machine : Type 1 where
   pub decodeOf : DecodeInput → State → List ℕ → Outcome State
   pub operandsOf : OperandsInput → State → List ℕ → Outcome State
   pub executeOf : ExecuteInput → State → List ℕ → Outcome State
-  -- in a state: the current frame's ergs and whether it is local, the depth, the stage reached, the kept record's operation
+  -- of a state: the current frame's ergs and whether it is local, the depth, the stage reached, the kept record's operation
   pub ergs : State → ℕ
   pub local : State → Bool
   pub depth : State → ℕ
   pub stage : State → Stage
   pub kept : State → Operation
-  -- from what decode is given: the plain record's price, and the operation of the record that Decode's rules keep
+  -- of what decode is given: the plain record's price, and the operation of the record that Decode's rules keep
   pub plainPrice : DecodeInput → State → ℕ
   pub keeps : DecodeInput → State → Operation
-  -- from what execute is given: the ergs that Execute's rule for a near call passes
+  -- of what execute is given: the ergs that Execute's rule for a near call passes
   pub passes : ExecuteInput → State → ℕ
-  -- of a row: how many words it has, and from these the ergs and whether the frame is local
+  -- the number of words in a row; of a row's words, the ergs and whether the frame is local
   pub rowWidth : ℕ
   pub rowErgs : List ℕ → ℕ
   pub rowLocal : List ℕ → Bool
@@ -53,8 +53,7 @@ pub record Machine : Type 1 where
 module _ (M : Machine) where
   open Machine M using (State, DecodeInput, ergs, depth, plainPrice, rowWidth)
 
-  -- "A charge is the smaller of the price and the ergs held." Document 01: "Its charge goes by the plain record's price, 0 when ended, and the current frame's ergs
-  -- in the state given to decode", "execution has ended exactly at depth 0".
+  -- "A charge is the smaller of the price and the ergs held." Document 01: "Price is 0 when ended", "execution has ended exactly at depth 0".
   unfoldable pub chargeOf : DecodeInput → State → ℕ
   chargeOf x s = min (cond (eqb (depth s) 0) 0 (plainPrice x s)) (ergs s)
 

@@ -1,1 +1,1 @@
-// The theorem on lists of stage calls, over any machine that keeps the laws of specs/Laws.antt: definitions and proofs, no function.
+// What holds of every list of stage calls of a machine that keeps the laws of specs/Laws.antt: definitions and proofs, no function.

@@ -1,0 +1,4 @@
+pub mod Rows
+pub mod Cycles
+pub mod Cover
+pub mod Resume
