@@ -227,9 +227,13 @@ module _ (w : ℕ) (h : 2147483648 ≤ w) (k : w < 4294967296) where
   less-natural zero = refl
   less-natural (suc m) = ap negsuc (omega arith)
 
-  pub signed-fits : SFits w32 (negsuc 0 -ℤ toZ w32 (4294967295 - w))
-  signed-fits = rw (read, less-natural (4294967295 - w)) (record { sfits = omega arith })
+  -- from -1, or from 0, as well
+  pub signed-fits : (x : ℤ) → 8589934591 ≤ sh x → sh x ≤ 8589934592 → SFits w32 (x -ℤ toZ w32 (4294967295 - w))
+  signed-fits x l u =
+      let minuend : mag x < 2147483648 = mag-of 2147483648 x (omega arith) (omega arith) (omega arith) in
+      let shifted = sh-sub x (pos (4294967295 - w)) (omega arith) (omega arith) in
+      rw read (fit (x -ℤ pos (4294967295 - w)) (omega arith) (omega arith))
 
   pub signed-upper : rt (negsuc 0 -ℤ toZ w32 (4294967295 - w)) ≡ signedOf 32 w
   unfolding signedOf
-  signed-upper = rw (toZ-ofZ signed-fits, read, less-natural (4294967295 - w), le-ltb w 2147483648 h)
+  signed-upper = rw (toZ-ofZ (signed-fits (negsuc 0) (omega arith) (omega arith)), read, less-natural (4294967295 - w), le-ltb w 2147483648 h)
