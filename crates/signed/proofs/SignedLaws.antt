@@ -26,7 +26,7 @@ top = pos 2147483647
 abbrev bottom : ℤ
 bottom = negsuc 2147483647
 
--- the ends as `sh` has them: 2 ^ 33 less 2 ^ 31, and 2 ^ 33 and 2 ^ 31, which no number reaches
+-- the ends as `sh` has them: the lowest number, 2 ^ 33 - 2 ^ 31, and one past the highest, 2 ^ 33 + 2 ^ 31
 abbrev lowest : ℕ
 lowest = 6442450944
 
