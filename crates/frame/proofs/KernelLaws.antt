@@ -1,14 +1,14 @@
 -- Kernel mode by the address's words. Assumes nothing.
 use Prim.Native.Nat.{ℕ, _/_, _%_, _^_, _<_}
-use mathlib.Core.Bool.{Bool, true, false, _&&_, and-assoc}
-use mathlib.Core.List.{List, [], _++_}
+use mathlib.Core.Bool.{true, _&&_, and-assoc}
+use mathlib.Core.List.{List, _++_}
 use mathlib.Core.Path.{_≡_, refl}
 use native.Mathlib.Omega.{arith}
 use lib.Dec.{eqb, ltb}
 use lib.ListN.{take}
 use borrow.Author.Tests.{eqb-true, eq-eqb, ltb-true, lt-ltb}
 use Rattle.frame.specs.declared.Frame.{Frame}
-use Rattle.frame.specs.Kernel.{bytesOf, addressBytes, allZero, kernelMode}
+use Rattle.frame.specs.Kernel.{bytesOf, allZero, kernelMode}
 use Rattle.frame.proofs.Bools.{and-parts, and-intro, same}
 
 -- a word is 0 where its four bytes are
@@ -30,8 +30,8 @@ word-zero w rest = same (allZero (bytesOf w ++ rest)) (eqb w 0 && allZero rest) 
     back e = let p = and-parts (eqb w 0) (allZero rest) e in rw (eqb-true w 0 (p .0), p .1)
 
 -- a word is below 65,536 where its first two bytes are 0
-low-half : (w : ℕ) → allZero (take 2 (bytesOf w)) ≡ ltb w 65536
-low-half w = same (allZero (take 2 (bytesOf w))) (ltb w 65536) there back
+first-two-bytes : (w : ℕ) → allZero (take 2 (bytesOf w)) ≡ ltb w 65536
+first-two-bytes w = same (allZero (take 2 (bytesOf w))) (ltb w 65536) there back
   where
     there : allZero (take 2 (bytesOf w)) ≡ true → ltb w 65536 ≡ true
     there e =
@@ -56,5 +56,5 @@ kernel f =
       word-zero (a .a1) (bytesOf (a .a2) ++ (bytesOf (a .a3) ++ take 2 (bytesOf (a .a4)))),
       word-zero (a .a2) (bytesOf (a .a3) ++ take 2 (bytesOf (a .a4))),
       word-zero (a .a3) (take 2 (bytesOf (a .a4))),
-      low-half (a .a4),
+      first-two-bytes (a .a4),
     ))

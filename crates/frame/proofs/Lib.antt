@@ -3,3 +3,4 @@ pub mod KernelLaws
 pub mod Copy
 pub mod RowLaws
 pub mod StoreLaws
+pub mod Examples

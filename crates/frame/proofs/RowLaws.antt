@@ -1,15 +1,17 @@
 -- A frame's row and a row's frame. Assumes nothing.
 use Prim.Native.Nat.{ℕ, zero, suc, _+_, _*_, _/_, _%_, _^_, _≤_, _<_}
-use mathlib.Core.Bool.{Bool, true, false, _&&_}
+use mathlib.Core.Bool.{Bool, true, false}
 use mathlib.Core.Path.{_≡_, refl, sym, ap, _∙_}
-use mathlib.Core.List.{List, [], _∷_, _++_}
+use mathlib.Core.Logic.{_↔_}
+use mathlib.Core.List.{List, [], _∷_}
 use native.Mathlib.Omega.{arith}
-use lib.Dec.{eqb, ltb, leb}
+use native.Mathlib.Nat.{mod-add-div}
+use lib.Dec.{eqb, ltb}
 use lib.ListN.{length, drop, drop-of-length-le}
 use lib.Seq.{drop-cons}
 use mir.Val.{boolByte}
 use borrow.Author.Tests.{ltb-true, lt-ltb, le-leb, lt-leb}
-use Rattle.signed.specs.Signed.{wordOf, signedOf, fitsSigned}
+use Rattle.signed.specs.Signed.{fitsSigned}
 use Rattle.signed.proofs.SignedLaws.{signed-of-word, word-of-signed}
 use Rattle.frame.specs.declared.Frame.{Frame}
 use Rattle.frame.specs.declared.Address.{Address}
@@ -17,7 +19,7 @@ use Rattle.frame.specs.declared.U128.{U128}
 use Rattle.frame.specs.declared.PubdataCost.{PubdataCost}
 use Rattle.frame.specs.Row.{rowWidth, rowOf, word, addressFrom, u128Of, pubdataOf, frameOf, goodWords, goodRow}
 use Rattle.frame.specs.Bounds.{Bounds}
-use Rattle.frame.proofs.Bools.{and-parts, and-intro}
+use Rattle.frame.proofs.Bools.{and-parts}
 
 -- the frame that `read` puts together
 pub read : (row : List ℕ) (this sender code : Address) (context : U128) (spent : PubdataCost)
@@ -47,20 +49,20 @@ pub read : (row : List ℕ) (this sender code : Address) (context : U128) (spent
 read row this sender code context spent e0 e1 e2 e3 e4 = rw (e0, e1, e2, e3, e4)
 
 -- what the test of a good row tells
-pub bounds : (row : List ℕ) → rowWidth ≤ length row → goodWords 16 row ≡ true → Bounds row
-bounds row h e =
+pub bounds : (w : ℕ) (row : List ℕ) → rowWidth ≤ length row → goodWords w row ≡ true → Bounds w row
+bounds w row h e =
     let q7 = and-parts _ (ltb (word row 25) 2) e in
     let q6 = and-parts _ (ltb (word row 24) 2) (q7 .0) in
     let q5 = and-parts _ (ltb (word row 23) 256) (q6 .0) in
     let q4 = and-parts _ (ltb (word row 22) 256) (q5 .0) in
     let q3 = and-parts _ (ltb (word row 21) 256) (q4 .0) in
-    let q2 = and-parts _ (ltb (word row 19) (2 ^ 16)) (q3 .0) in
-    let q1 = and-parts (ltb (word row 17) (2 ^ 16)) (ltb (word row 18) (2 ^ 16)) (q2 .0) in
+    let q2 = and-parts _ (ltb (word row 19) (2 ^ w)) (q3 .0) in
+    let q1 = and-parts (ltb (word row 17) (2 ^ w)) (ltb (word row 18) (2 ^ w)) (q2 .0) in
     record {
       size = h;
-      sp = ltb-true (word row 17) (2 ^ 16) (q1 .0);
-      pc = ltb-true (word row 18) (2 ^ 16) (q1 .1);
-      handler = ltb-true (word row 19) (2 ^ 16) (q2 .1);
+      sp = ltb-true (word row 17) (2 ^ w) (q1 .0);
+      pc = ltb-true (word row 18) (2 ^ w) (q1 .1);
+      handler = ltb-true (word row 19) (2 ^ w) (q2 .1);
       thisShard = ltb-true (word row 21) 256 (q3 .1);
       callerShard = ltb-true (word row 22) 256 (q4 .1);
       codeShard = ltb-true (word row 23) 256 (q5 .1);
@@ -68,19 +70,16 @@ bounds row h e =
       local = ltb-true (word row 25) 2 (q7 .1);
     }
 
-pub good-short : (row : List ℕ) → length row < rowWidth → false ≡ goodRow 16 row
-good-short row h = rw (lt-leb rowWidth (length row) h)
+pub good-short : (w : ℕ) (row : List ℕ) → length row < rowWidth → false ≡ goodRow w row
+good-short w row h = rw (lt-leb rowWidth (length row) h)
 
-pub good-whole : (row : List ℕ) (b : Bool) → rowWidth ≤ length row → b ≡ goodWords 16 row → b ≡ goodRow 16 row
-good-whole row b h e = rw (le-leb rowWidth (length row) h, e)
+pub good-whole : (w : ℕ) (row : List ℕ) (b : Bool) → rowWidth ≤ length row → b ≡ goodWords w row → b ≡ goodRow w row
+good-whole w row b h e = rw (le-leb rowWidth (length row) h, e)
 
 -- ---- there and back
 bit-back : (b : Bool) → eqb (boolByte b) 1 ≡ b
 bit-back true = refl
 bit-back false = refl
-
-halves : (n : ℕ) → n % 2 ^ 32 + 2 ^ 32 * (n / 2 ^ 32) ≡ n
-halves n = omega arith
 
 -- the frame of a frame's row is the frame
 pub frame-of-row : (f : Frame) → fitsSigned 32 (f .«total_pubdata_spent» .0) ≡ true → frameOf (rowOf f) ≡ f
@@ -88,16 +87,16 @@ frame-of-row f h =
     rw (
       bit-back (f .«is_static»),
       bit-back (f .«is_local_frame»),
-      halves (f .«context_u128_value» .low),
-      halves (f .«context_u128_value» .high),
+      mod-add-div (f .«context_u128_value» .low) (2 ^ 32),
+      mod-add-div (f .«context_u128_value» .high) (2 ^ 32),
       signed-of-word 32 (f .«total_pubdata_spent» .0) h,
     )
 
--- the ranges of a frame's narrow fields, as its type has them
-pub record Ranges (f : Frame) : Type 0 where
-  pub sp : f .sp < 2 ^ 16
-  pub pc : f .pc < 2 ^ 16
-  pub handler : f .«exception_handler_location» < 2 ^ 16
+-- the ranges of a frame's narrow fields, as its type has them at w = 16
+pub record Ranges (w : ℕ) (f : Frame) : Type 0 where
+  pub sp : f .sp < 2 ^ w
+  pub pc : f .pc < 2 ^ w
+  pub handler : f .«exception_handler_location» < 2 ^ w
   pub thisShard : f .«this_shard_id» < 2 ^ 8
   pub callerShard : f .«caller_shard_id» < 2 ^ 8
   pub codeShard : f .«code_shard_id» < 2 ^ 8
@@ -108,12 +107,12 @@ bit-below true = refl
 bit-below false = refl
 
 -- a frame's row is good
-pub good-of-frame : (f : Frame) → Ranges f → goodRow 16 (rowOf f) ≡ true
-good-of-frame f r =
+pub good-of-frame : (w : ℕ) (f : Frame) → Ranges w f → goodRow w (rowOf f) ≡ true
+good-of-frame w f r =
     rw (
-      lt-ltb (f .sp) (2 ^ 16) (r .sp),
-      lt-ltb (f .pc) (2 ^ 16) (r .pc),
-      lt-ltb (f .«exception_handler_location») (2 ^ 16) (r .handler),
+      lt-ltb (f .sp) (2 ^ w) (r .sp),
+      lt-ltb (f .pc) (2 ^ w) (r .pc),
+      lt-ltb (f .«exception_handler_location») (2 ^ w) (r .handler),
       lt-ltb (f .«this_shard_id») 256 (r .thisShard),
       lt-ltb (f .«caller_shard_id») 256 (r .callerShard),
       lt-ltb (f .«code_shard_id») 256 (r .codeShard),
@@ -141,19 +140,22 @@ bit-word (suc (suc n)) h = absurd (none n h)
     none n h = omega arith
 
 -- the row of a good row's frame is the row, where its words have 32 bits
-pub row-of-frame : (row : List ℕ) → length row ≡ rowWidth → ((k : ℕ) → word row k < 2 ^ 32) → goodWords 16 row ≡ true → rowOf (frameOf row) ≡ row
+pub row-of-frame : (w : ℕ) (row : List ℕ) → length row ≡ rowWidth → ((k : ℕ) → word row k < 2 ^ 32) → goodWords w row ≡ true → rowOf (frameOf row) ≡ row
 unfolding listed
-row-of-frame row e small g =
-    let b = bounds row (omega arith) g in
-    let l = low-half (word row 26) (word row 27) (small 26) in
-    let h = low-half (word row 28) (word row 29) (small 28) in
+row-of-frame w row e small g =
+    let b = bounds w row (omega arith) g in
+    let l = two-words (word row 26) (word row 27) (small 26) in
+    let h = two-words (word row 28) (word row 29) (small 28) in
     rw (bit-word (word row 24) (b .static), bit-word (word row 25) (b .local), l .0, l .1, h .0, h .1, word-of-signed 32 (word row 32) (small 32))
     (listed-drop rowWidth 0 row (sym e))
   where
-    low-half : (m n : ℕ) → m < 2 ^ 32 → ((m + 2 ^ 32 * n) % 2 ^ 32 ≡ m) × ((m + 2 ^ 32 * n) / 2 ^ 32 ≡ n)
-    low-half m n h = omega arith
+    two-words : (m n : ℕ) → m < 2 ^ 32 → ((m + 2 ^ 32 * n) % 2 ^ 32 ≡ m) × ((m + 2 ^ 32 * n) / 2 ^ 32 ≡ n)
+    two-words m n h = omega arith
 
--- two good rows of 32-bit words hold the same frame only where their words agree
-pub frames-agree : (r s : List ℕ) → length r ≡ rowWidth → length s ≡ rowWidth → ((k : ℕ) → word r k < 2 ^ 32) → ((k : ℕ) → word s k < 2 ^ 32)
-    → goodWords 16 r ≡ true → goodWords 16 s ≡ true → frameOf r ≡ frameOf s → r ≡ s
-frames-agree r s lr ls br bs gr gs e = sym (row-of-frame r lr br gr) ∙ ap rowOf e ∙ row-of-frame s ls bs gs
+-- two good rows of 32-bit words hold the same frame exactly where their words agree
+pub frames-agree : (w : ℕ) (r s : List ℕ) → length r ≡ rowWidth → length s ≡ rowWidth → ((k : ℕ) → word r k < 2 ^ 32) → ((k : ℕ) → word s k < 2 ^ 32)
+    → goodWords w r ≡ true → goodWords w s ≡ true → (frameOf r ≡ frameOf s) ↔ (r ≡ s)
+frames-agree w r s lr ls br bs gr gs = (
+  λ e. sym (row-of-frame w r lr br gr) ∙ ap rowOf e ∙ row-of-frame w s ls bs gs,
+  λ e. ap frameOf e,
+)

@@ -12,7 +12,7 @@ use Rattle.frame.specs.declared.Address.{Address}
 use Rattle.frame.specs.declared.U128.{U128}
 use Rattle.frame.specs.declared.PubdataCost.{PubdataCost}
 
--- how many words a row has: said here alone
+-- how many words a row has; the contracts hold the code's ROW_WIDTH to it
 abbrev pub rowWidth : ℕ
 rowWidth = 34
 
@@ -91,15 +91,15 @@ frameOf row = record {
 
 -- ---- good rows
 -- "A row is good if sp, pc and handler are below 65,536, shard ids below 256, static and local 0 or 1." sp, pc and handler have w bits: 16 in the production
--- encoding.
+-- encoding. The tests are of words, since a frame's static and local are yes or no and no longer tell 2 from 0.
 abbrev pub goodWords : ℕ → List ℕ → Bool
 goodWords w row =
-    ltb (frameOf row .sp) (2 ^ w)
-    && ltb (frameOf row .pc) (2 ^ w)
-    && ltb (frameOf row .«exception_handler_location») (2 ^ w)
-    && ltb (frameOf row .«this_shard_id») 256
-    && ltb (frameOf row .«caller_shard_id») 256
-    && ltb (frameOf row .«code_shard_id») 256
+    ltb (word row 17) (2 ^ w)
+    && ltb (word row 18) (2 ^ w)
+    && ltb (word row 19) (2 ^ w)
+    && ltb (word row 21) 256
+    && ltb (word row 22) 256
+    && ltb (word row 23) 256
     && ltb (word row 24) 2
     && ltb (word row 25) 2
 

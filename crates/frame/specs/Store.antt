@@ -3,7 +3,7 @@
 use Prim.Native.Nat.{ℕ, _+_, _*_, _/_}
 use mathlib.Core.Bool.{cond, not}
 use mathlib.Core.List.{List, [], _∷_, _++_}
-use lib.Dec.{ltb, eqb}
+use lib.Dec.{ltb}
 use lib.ListN.{length, take, drop}
 use Rattle.frame.specs.declared.Frame.{Frame}
 use Rattle.frame.specs.declared.SaveAnswer.{SaveAnswer}
@@ -24,29 +24,37 @@ abbrev pub storeWith : List ℕ → ℕ → Frame → List ℕ
 storeWith store i f = take (i * rowWidth) store ++ (rowOf f ++ drop ((i + 1) * rowWidth) store)
 
 -- ---- saving f as row i
--- refusal 1 for a row "above the store's whole rows"
+-- a row that is not among the store's whole rows is missing
+unfoldable pub saveOf : List ℕ → ℕ → SaveAnswer
+saveOf store i = cond (ltb i (wholeRows store)) SaveAnswer.Saved SaveAnswer.Missing
+
+-- the store afterwards: where the row is missing, what was given
+unfoldable pub savedStore : List ℕ → ℕ → Frame → List ℕ
+savedStore store i f = cond (ltb i (wholeRows store)) (storeWith store i f) store
+
+-- the number of each case, 0 where nothing is refused. Document 01 has no number for a missing row, so `Missing` is this crate's own answer. It has the number
+-- of "limit 0 or above the store's whole rows, or depth above limit", and after that check it cannot come: each row below the limit is then in the store.
+abbrev pub saveNumber : SaveAnswer → ℕ
+saveNumber SaveAnswer.Saved = 0
+saveNumber SaveAnswer.Missing = 1
+
+-- the number by its check
 abbrev pub saveRefusal : List ℕ → ℕ → ℕ
 saveRefusal store i = firstOf ((not (ltb i (wholeRows store)) refuses 1) ∷ [])
 
--- the answer for a number: 1 says that the row is missing
-abbrev pub saveAnswer : ℕ → SaveAnswer
-saveAnswer n = cond (eqb n 0) SaveAnswer.Saved SaveAnswer.Missing
+-- ---- reading row i, whose sp, pc and handler have w bits
+unfoldable pub readOf : ℕ → List ℕ → ℕ → ReadAnswer
+readOf w store i =
+    cond (ltb i (wholeRows store))
+    (cond (goodRow w (rowAt store i)) (ReadAnswer.Good (frameOf (rowAt store i))) ReadAnswer.NotGood)
+    ReadAnswer.Missing
 
-unfoldable pub saveOf : List ℕ → ℕ → SaveAnswer
-saveOf store i = saveAnswer (saveRefusal store i)
+-- the number of each case: `Missing` as above; 8 is document 01's "the top row is not good", here for any row i
+abbrev pub readNumber : ReadAnswer → ℕ
+readNumber (ReadAnswer.Good f) = 0
+readNumber ReadAnswer.Missing = 1
+readNumber ReadAnswer.NotGood = 8
 
--- the store afterwards: on a refusal, what was given
-unfoldable pub savedStore : List ℕ → ℕ → Frame → List ℕ
-savedStore store i f = cond (eqb (saveRefusal store i) 0) (storeWith store i f) store
-
--- ---- reading row i
--- refusal 1 as above; refusal 8 where "the top row is not good"
-abbrev pub readRefusal : List ℕ → ℕ → ℕ
-readRefusal store i = firstOf ((not (ltb i (wholeRows store)) refuses 1) ∷ (not (goodRow 16 (rowAt store i)) refuses 8) ∷ [])
-
--- the answer for a number: 1 says that the row is missing, 8 that it is not good; 0 gives its frame
-abbrev pub readAnswer : ℕ → Frame → ReadAnswer
-readAnswer n f = cond (eqb n 0) (ReadAnswer.Good f) (cond (eqb n 1) ReadAnswer.Missing ReadAnswer.NotGood)
-
-unfoldable pub readOf : List ℕ → ℕ → ReadAnswer
-readOf store i = readAnswer (readRefusal store i) (frameOf (rowAt store i))
+-- the number by its checks
+abbrev pub readRefusal : ℕ → List ℕ → ℕ → ℕ
+readRefusal w store i = firstOf ((not (ltb i (wholeRows store)) refuses 1) ∷ (not (goodRow w (rowAt store i)) refuses 8) ∷ [])

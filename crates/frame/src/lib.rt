@@ -2,7 +2,7 @@
 ghost use mathlib.Core.Path.{_≡_};
 ghost use Rattle.frame.specs.Kernel.{kernelMode};
 ghost use Rattle.frame.specs.Row.{goodRow};
-ghost use Rattle.frame.specs.Store.{saveOf, savedStore, readOf};
+ghost use Rattle.frame.specs.Store.{saveOf, savedStore, saveNumber, saveRefusal, readOf, readNumber, readRefusal};
 
 mod row;
 
@@ -85,7 +85,9 @@ pub fn good_row(words: &[u32]) -> bool
 
 // Saves a frame as row i: the row is written through the part of the store that begins at it.
 pub fn save_frame(store: &mut [u32], i: u32, f: Frame) -> SaveAnswer
-    ensures { λ r. ⌜ (r ≡ saveOf (now (store .entry)) i) × (now (store .exit) ≡ savedStore (now (store .entry)) i f) ⌝ }
+    ensures { λ r. ⌜ (r ≡ saveOf (now (store .entry)) i)
+        × (saveNumber r ≡ saveRefusal (now (store .entry)) i)
+        × (now (store .exit) ≡ savedStore (now (store .entry)) i f) ⌝ }
 {
     if store.len() / ROW_WIDTH <= i as usize {
         return SaveAnswer::Missing;
@@ -97,7 +99,7 @@ pub fn save_frame(store: &mut [u32], i: u32, f: Frame) -> SaveAnswer
 
 // Reads row i.
 pub fn read_frame(store: &[u32], i: u32) -> ReadAnswer
-    ensures { λ r. ⌜ r ≡ readOf (now (store .entry)) i ⌝ }
+    ensures { λ r. ⌜ (r ≡ readOf 16 (now (store .entry)) i) × (readNumber r ≡ readRefusal 16 (now (store .entry)) i) ⌝ }
 {
     if store.len() / ROW_WIDTH <= i as usize {
         return ReadAnswer::Missing;

@@ -1,7 +1,7 @@
 // A frame's row of words.
 ghost use mathlib.Core.Path.{_≡_};
 ghost use mathlib.Core.List.{_++_};
-ghost use Prim.Native.Nat.{_+_, _/_, _%_, _^_, _≤_, _<_};
+ghost use Prim.Native.Nat.{_+_, _/_, _%_, _^_, _≤_};
 ghost use lib.ListN.{length, drop};
 ghost use Rattle.signed.specs.Signed.{wordOf};
 ghost use Rattle.frame.specs.Bounds.{Bounds};
@@ -154,7 +154,7 @@ fn u128_of(w0: u32, w1: u32, w2: u32, w3: u32) -> U128
 
 // The frame of a good row.
 pub(crate) fn read(part: &[u32]) -> Frame
-    requires { ⌜ Bounds (now part) ⌝ }
+    requires { ⌜ Bounds 16 (now part) ⌝ }
     ensures { λ r. ⌜ r ≡ frameOf (now (part .entry)) ⌝ }
 {
     let this = address_from(part, 0);

@@ -2,13 +2,11 @@
 -- Assumes nothing.
 use Prim.Native.Nat.{ℕ, suc, _+_, _-_, _≤_, _<_}
 use mathlib.Core.Bool.{Bool, true, false, cond}
-use mathlib.Core.Path.{_≡_, refl, sym, ap, _∙_}
+use mathlib.Core.Path.{_≡_, refl}
 use native.Mathlib.Omega.{arith}
-use lib.Dec.{ltb, leb}
+use lib.Dec.{ltb}
 use lib.IntN.{ℤ, pos, negsuc, _+ℤ_, _-ℤ_, negℤ, subℕ}
 use lib.Signed.{mag, leZ}
-use mir.Syntax.{w32}
-use mir.Val.{SFits}
 use borrow.Author.Tests.{ltb-true, ltb-false, leb-true, leb-false}
 
 abbrev pub sh : ℤ → ℕ
@@ -33,13 +31,13 @@ sh-neg (pos ℕ.zero) h = refl
 sh-neg (pos (suc b)) h = omega arith
 sh-neg (negsuc b) h = omega arith
 
+pub mag-neg : (z : ℤ) → mag (negℤ z) ≤ suc (mag z)
+mag-neg (pos ℕ.zero) = omega arith
+mag-neg (pos (suc n)) = omega arith
+mag-neg (negsuc n) = omega arith
+
 pub sh-sub : (a b : ℤ) → mag a < 4294967296 → mag b < 4294967295 → sh (a -ℤ b) + sh b ≡ sh a + 8589934592
-sh-sub a b h k = omega (arith, sh-add a (negℤ b) h (mag-neg b k), sh-neg b (omega arith))
-  where
-    mag-neg : (b : ℤ) → mag b < 4294967295 → mag (negℤ b) < 4294967296
-    mag-neg (pos ℕ.zero) k = omega arith
-    mag-neg (pos (suc b)) k = omega arith
-    mag-neg (negsuc b) k = omega arith
+sh-sub a b h k = omega (arith, sh-add a (negℤ b) h (omega (arith, mag-neg b)), sh-neg b (omega arith))
 
 pub sh-low : (m : ℕ) (z : ℤ) → mag z < m → 8589934592 - m ≤ sh z
 sh-low m (pos n) h = omega arith

@@ -13,7 +13,7 @@ use borrow.Author.Tests.{ltb-true, lt-ltb, le-ltb, le-leb}
 use Rattle.signed.specs.declared.Checked.{Checked}
 use Rattle.signed.specs.declared.Checked.the-variants.{Outside}
 use Rattle.signed.specs.Signed.{fitsSigned, checkedOf, wordOf, signedOf}
-use Rattle.signed.proofs.Shift.{sh, sh-add, sh-neg, sh-sub, sh-low, sh-high, mag-of, le-true, le-false}
+use Rattle.signed.proofs.Shift.{sh, sh-add, sh-neg, mag-neg, sh-sub, sh-low, sh-high, mag-of, le-true, le-false}
 
 -- a signed local is read back from its bits
 abbrev pub rt : ℤ → ℤ
@@ -26,20 +26,31 @@ top = pos 2147483647
 abbrev bottom : ℤ
 bottom = negsuc 2147483647
 
-fit : (z : ℤ) → 6442450944 ≤ sh z → sh z < 10737418240 → SFits w32 z
+-- the ends as `sh` has them: the lowest number, 2 ^ 33 - 2 ^ 31, and one past the highest, 2 ^ 33 + 2 ^ 31
+abbrev lowest : ℕ
+lowest = 6442450944
+
+abbrev past : ℕ
+past = 10737418240
+
+fit : (z : ℤ) → lowest ≤ sh z → sh z < past → SFits w32 z
 fit z l h = record { sfits = mag-of 2147483648 z (omega arith) l h }
 
 fits-true : (z : ℤ) → SFits w32 z → true ≡ fitsSigned 32 z
 fits-true (pos n) f = sym (lt-ltb _ _ (f .sfits))
 fits-true (negsuc n) f = sym (lt-ltb _ _ (f .sfits))
 
-above : (z : ℤ) → 10737418240 ≤ sh z → false ≡ fitsSigned 32 z
-above (pos n) h = sym (le-ltb n 2147483648 (omega arith))
-above (negsuc n) h = sym (le-ltb n 2147483648 (omega arith))
+fits-of : (z : ℤ) → fitsSigned 32 z ≡ true → SFits w32 z
+fits-of (pos n) e = record { sfits = ltb-true n 2147483648 e }
+fits-of (negsuc n) e = record { sfits = ltb-true n 2147483648 e }
 
-below : (z : ℤ) → sh z < 6442450944 → false ≡ fitsSigned 32 z
-below (pos n) h = sym (le-ltb n 2147483648 (omega arith))
-below (negsuc n) h = sym (le-ltb n 2147483648 (omega arith))
+-- a number that is not between the ends does not fit
+fits-false : (z : ℤ) → (lowest ≤ sh z → sh z < past → ⊥) → false ≡ fitsSigned 32 z
+fits-false z apart = go (fitsSigned 32 z) refl
+  where
+    go : (t : Bool) → fitsSigned 32 z ≡ t → false ≡ t
+    go true e = let f = fits-of z e in absurd (apart (sh-low 2147483648 z (f .sfits)) (sh-high 2147483648 z (f .sfits)))
+    go false e = refl
 
 -- ---- a test of a against the room that d leaves below the top, or above the bottom, says whether a + d fits
 -- (r is the total as the code computes it, z the number that it should be)
@@ -52,10 +63,10 @@ module _ (a d : ℤ) (fa : SFits w32 a) where
   sum-sh : mag d ≤ 2147483648 → sh (a +ℤ d) + 8589934592 ≡ sh a + sh d
   sum-sh k = sh-add a d (omega arith) (omega arith)
 
-  low-a : 6442450944 ≤ sh a
+  low-a : lowest ≤ sh a
   low-a = sh-low 2147483648 a (fa .sfits)
 
-  high-a : sh a < 10737418240
+  high-a : sh a < past
   high-a = sh-high 2147483648 a (fa .sfits)
 
   module _ (k : mag d ≤ 2147483648) where
@@ -72,7 +83,7 @@ module _ (a d : ℤ) (fa : SFits w32 a) where
         go true e =
             fits-true (a +ℤ d)
             (fit (a +ℤ d) (omega (arith, sum-sh k, low-a)) (omega (arith, sum-sh k, room-sh, le-true a (top -ℤ d) e)))
-        go false e = above (a +ℤ d) (omega (arith, sum-sh k, room-sh, le-false a (top -ℤ d) (omega (arith, room)) e))
+        go false e = fits-false (a +ℤ d) (λ l h. omega (arith, sum-sh k, room-sh, le-false a (top -ℤ d) (omega (arith, room)) e))
 
     down : sh d ≤ 8589934592 → Tests (leZ (bottom -ℤ d) a) (bottom -ℤ d) (a +ℤ d) (a +ℤ d)
     down h = record { room-fits = room; same = refl; right = go (leZ (bottom -ℤ d) a) refl }
@@ -87,7 +98,7 @@ module _ (a d : ℤ) (fa : SFits w32 a) where
         go true e =
             fits-true (a +ℤ d)
             (fit (a +ℤ d) (omega (arith, sum-sh k, room-sh, le-true (bottom -ℤ d) a e)) (omega (arith, sum-sh k, high-a)))
-        go false e = below (a +ℤ d) (omega (arith, sum-sh k, room-sh, le-false (bottom -ℤ d) a (omega arith) e))
+        go false e = fits-false (a +ℤ d) (λ l h. omega (arith, sum-sh k, room-sh, le-false (bottom -ℤ d) a (omega arith) e))
 
 -- ---- the four tests as the code has them: the room is what the one operation leaves of the top or the bottom, the total what the other makes
 abbrev pub TopTest : (ℤ → ℤ → ℤ) → (ℤ → ℤ → ℤ) → ℤ → ℤ → Type 0
@@ -110,28 +121,19 @@ module _ (a b : ℤ) (fa : SFits w32 a) (fb : SFits w32 b) where
   add-down t = let p = down a b fa (omega arith) (is-below t) in rw (toZ-ofZ fa, toZ-ofZ fb, toZ-ofZ (p .room-fits)) p
 
   -- a - b is a + (- b), and the room of - b is that of b on the other side
-  mag-neg : (z : ℤ) → mag z < 2147483648 → mag (negℤ z) ≤ 2147483648
-  mag-neg (pos zero) h = omega arith
-  mag-neg (pos (suc n)) h = omega arith
-  mag-neg (negsuc n) h = omega arith
-
   pub sub-down : leZ (pos 0) (rt b) ≡ true → BottomTest _+ℤ_ _-ℤ_ a b
   sub-down t =
-      let p = down a (negℤ b) fa (mag-neg b (fb .sfits)) (omega (arith, not-below t, sh-neg b (omega arith))) in
+      let p = down a (negℤ b) fa (omega (arith, mag-neg b)) (omega (arith, not-below t, sh-neg b (omega arith))) in
       let q = rw (negℤ-negℤ b) at p in
       rw (toZ-ofZ fa, toZ-ofZ fb, toZ-ofZ (q .room-fits)) q
 
   pub sub-up : leZ (pos 0) (rt b) ≡ false → TopTest _+ℤ_ _-ℤ_ a b
   sub-up t =
-      let p = up a (negℤ b) fa (mag-neg b (fb .sfits)) (omega (arith, is-below t, sh-neg b (omega arith))) in
+      let p = up a (negℤ b) fa (omega (arith, mag-neg b)) (omega (arith, is-below t, sh-neg b (omega arith))) in
       let q = rw (negℤ-negℤ b) at p in
       rw (toZ-ofZ fa, toZ-ofZ fb, toZ-ofZ (q .room-fits)) q
 
 -- ---- what such a test makes of the total
-fits-of : (z : ℤ) → fitsSigned 32 z ≡ true → SFits w32 z
-fits-of (pos n) e = record { sfits = ltb-true n 2147483648 e }
-fits-of (negsuc n) e = record { sfits = ltb-true n 2147483648 e }
-
 module _ {q : Bool} {room r z : ℤ} (p : Tests q room r z) where
   pub fits : q ≡ true → SFits w32 r
   fits e = rw (p .same) (fits-of z (sym (p .right) ∙ e))
@@ -190,7 +192,7 @@ module _ (x : ℤ) (f : SFits w32 x) (t : leZ (pos 0) (rt x) ≡ true) where
 pub record Flips (x y : ℤ) : Type 0 where
   pub fits : SFits w32 y
   pub cast : T (nonNeg (rt y)) × Fits w32 (natAbs (rt y))
-  pub small : natAbs (rt y) ≤ 4294967295
+  pub small : natAbs (rt y) < 2147483648
   pub word : 4294967295 - natAbs (rt y) ≡ wordOf 32 x
 
 flips-at : (n : ℕ) → SFits w32 (pos n) → Flips (negsuc n) (pos n)
@@ -205,12 +207,12 @@ flips-at n k = record {
 pub flips : (x : ℤ) → SFits w32 x → leZ (pos 0) (rt x) ≡ false → Flips x (negsuc 0 -ℤ rt x)
 flips x f t = rw (toZ-ofZ f) (go x f (rw (toZ-ofZ f) at t))
   where
-    minus-one : (n : ℕ) → negsuc 0 -ℤ negsuc n ≡ pos n
-    minus-one n = rw (le-ltb (suc n) 1 (omega arith)) (ap pos (omega arith))
+    less-negative : (n : ℕ) → negsuc 0 -ℤ negsuc n ≡ pos n
+    less-negative n = rw (le-ltb (suc n) 1 (omega arith)) (ap pos (omega arith))
 
     go : (z : ℤ) → SFits w32 z → leZ (pos 0) z ≡ false → Flips z (negsuc 0 -ℤ z)
     go (pos n) f t = absurd (subst T (sym (le-leb 0 n (omega arith)) ∙ t) tt)
-    go (negsuc n) f t = rw (minus-one n) (flips-at n (record { sfits = f .sfits }))
+    go (negsuc n) f t = rw (less-negative n) (flips-at n (record { sfits = f .sfits }))
 
 -- a word in the lower half, and in the upper, as `from_word` casts it
 pub signed-lower : (w : ℕ) → w < 2147483648 → toZ w32 w ≡ signedOf 32 w
@@ -221,13 +223,17 @@ module _ (w : ℕ) (h : 2147483648 ≤ w) (k : w < 4294967296) where
   read : toZ w32 (4294967295 - w) ≡ pos (4294967295 - w)
   read = rw (lt-ltb (4294967295 - w) 2147483648 (omega arith))
 
-  minus-one : (m : ℕ) → negsuc 0 -ℤ pos m ≡ negsuc m
-  minus-one zero = refl
-  minus-one (suc m) = ap negsuc (omega arith)
+  less-natural : (m : ℕ) → negsuc 0 -ℤ pos m ≡ negsuc m
+  less-natural zero = refl
+  less-natural (suc m) = ap negsuc (omega arith)
 
-  pub signed-fits : SFits w32 (negsuc 0 -ℤ toZ w32 (4294967295 - w))
-  signed-fits = rw (read, minus-one (4294967295 - w)) (record { sfits = omega arith })
+  -- from -1, or from 0, as well
+  pub signed-fits : (x : ℤ) → 8589934591 ≤ sh x → sh x ≤ 8589934592 → SFits w32 (x -ℤ toZ w32 (4294967295 - w))
+  signed-fits x l u =
+      let minuend : mag x < 2147483648 = mag-of 2147483648 x (omega arith) (omega arith) (omega arith) in
+      let shifted = sh-sub x (pos (4294967295 - w)) (omega arith) (omega arith) in
+      rw read (fit (x -ℤ pos (4294967295 - w)) (omega arith) (omega arith))
 
   pub signed-upper : rt (negsuc 0 -ℤ toZ w32 (4294967295 - w)) ≡ signedOf 32 w
   unfolding signedOf
-  signed-upper = rw (toZ-ofZ signed-fits, read, minus-one (4294967295 - w), le-ltb w 2147483648 h)
+  signed-upper = rw (toZ-ofZ (signed-fits (negsuc 0) (omega arith) (omega arith)), read, less-natural (4294967295 - w), le-ltb w 2147483648 h)

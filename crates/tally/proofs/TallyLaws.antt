@@ -1,35 +1,35 @@
 -- Entries of the spend tally. Assumes nothing.
 use Prim.Native.Nat.{ℕ, _+_, _-_, _^_, _≤_, _<_}
 use mathlib.Core.Bool.{Bool, true, false, _||_}
-use mathlib.Core.Path.{_≡_, refl, sym, _∙_}
+use mathlib.Core.Path.{_≡_, refl}
 use mathlib.Core.List.{List}
 use native.Mathlib.Omega.{arith}
 use lib.Dec.{ltb, leb}
 use lib.ListN.{length, getD, set}
 use borrow.Author.Tests.{ltb-false, lt-ltb, le-ltb, le-leb, lt-leb}
 use Rattle.tally.specs.declared.EnterAnswer.{EnterAnswer}
-use Rattle.tally.specs.Tally.{spent, badDepths, enterOf, tallyAfter}
+use Rattle.tally.specs.Tally.{spent, badEntry, charged, enterOf, tallyAfter}
 
 or-parts : (a b : Bool) → (a || b) ≡ false → (a ≡ false) × (b ≡ false)
 or-parts false b e = (refl, e)
 or-parts true false e = (e, refl)
 or-parts true true e = (e, e)
 
-pub refused-depths : (tally : List ℕ) (limit before after charge : ℕ) (bad : Bool) → bad ≡ badDepths (length tally) limit before after → bad ≡ true
+pub refused-entry : (tally : List ℕ) (limit before after charge : ℕ) (bad : Bool) → bad ≡ badEntry (length tally) limit before after → bad ≡ true
     → (EnterAnswer.Refused 15 ≡ enterOf tally limit before after charge) × (tally ≡ tallyAfter tally limit before after charge)
 unfolding enterOf tallyAfter
-refused-depths tally limit before after charge bad e t = rw (← e, t) (refl, refl)
+refused-entry tally limit before after charge bad e t = rw (← e, t) (refl, refl)
 
--- an entry whose depths are good
+-- an entry whose tally and depths are good
 pub record Entry (tally : List ℕ) (limit before after charge : ℕ) : Type 0 where
-  pub depths : badDepths (length tally) limit before after ≡ false
+  pub good : badEntry (length tally) limit before after ≡ false
   pub width : charge < 2 ^ 64
 
 module _ {tally : List ℕ} {limit before after charge : ℕ} (n : Entry tally limit before after charge) where
   -- both depths have their places
   pub places : (before < length tally) × (after < length tally)
   places =
-      let p4 = or-parts _ (ltb (after + 1) before) (n .depths) in
+      let p4 = or-parts _ (ltb (after + 1) before) (n .good) in
       let p3 = or-parts _ (ltb (before + 1) after) (p4 .0) in
       let p2 = or-parts _ (ltb limit after) (p3 .0) in
       let p1 = or-parts (ltb (length tally) (limit + 1)) (ltb limit before) (p2 .0) in
@@ -39,7 +39,7 @@ module _ {tally : List ℕ} {limit before after charge : ℕ} (n : Entry tally l
   pub refused-sum : 2 ^ 64 - 1 - charge < getD tally before 0
       → (EnterAnswer.Refused 15 ≡ enterOf tally limit before after charge) × (tally ≡ tallyAfter tally limit before after charge)
   unfolding enterOf tallyAfter
-  refused-sum l = rw (n .depths, le-leb (2 ^ 64) (spent tally before charge) (omega arith)) (refl, refl)
+  refused-sum l = rw (n .good, le-leb (2 ^ 64) (spent tally before charge) (omega arith)) (refl, refl)
 
   module _ (l : getD tally before 0 ≤ 2 ^ 64 - 1 - charge) where
     fits : leb (2 ^ 64) (spent tally before charge) ≡ false
@@ -47,12 +47,12 @@ module _ {tally : List ℕ} {limit before after charge : ℕ} (n : Entry tally l
 
     pub entered-open : before < after
         → (EnterAnswer.Entered ≡ enterOf tally limit before after charge)
-        × (set (set tally before (spent tally before charge)) after 0 ≡ tallyAfter tally limit before after charge)
+        × (set (charged tally before charge) after 0 ≡ tallyAfter tally limit before after charge)
     unfolding enterOf tallyAfter
-    entered-open o = rw (n .depths, fits, lt-ltb before after o) (refl, refl)
+    entered-open o = rw (n .good, fits, lt-ltb before after o) (refl, refl)
 
     pub entered-same : after ≤ before
         → (EnterAnswer.Entered ≡ enterOf tally limit before after charge)
-        × (set tally before (spent tally before charge) ≡ tallyAfter tally limit before after charge)
+        × (charged tally before charge ≡ tallyAfter tally limit before after charge)
     unfolding enterOf tallyAfter
-    entered-same o = rw (n .depths, fits, le-ltb before after o) (refl, refl)
+    entered-same o = rw (n .good, fits, le-ltb before after o) (refl, refl)

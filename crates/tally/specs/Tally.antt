@@ -11,19 +11,22 @@ use Rattle.tally.specs.declared.EnterAnswer.{EnterAnswer}
 abbrev pub spent : List ℕ → ℕ → ℕ → ℕ
 spent tally depth charge = getD tally depth 0 + charge
 
--- "tally shorter than limit plus 1, depths above limit or more than 1 apart"
-abbrev pub badDepths : ℕ → ℕ → ℕ → ℕ → Bool
-badDepths size limit before after =
+-- refusal 15 but for the sum: "tally shorter than limit plus 1, depths above limit or more than 1 apart"
+abbrev pub badEntry : ℕ → ℕ → ℕ → ℕ → Bool
+badEntry size limit before after =
     ltb size (limit + 1) || ltb limit before || ltb limit after || ltb (before + 1) after || ltb (after + 1) before
 
 -- refusal 15: these, "or sum above 64 bits"; 0 is no refusal
 abbrev pub enterRefusal : List ℕ → ℕ → ℕ → ℕ → ℕ → ℕ
-enterRefusal tally limit before after charge = cond (badDepths (length tally) limit before after || leb (2 ^ 64) (spent tally before charge)) 15 0
+enterRefusal tally limit before after charge = cond (badEntry (length tally) limit before after || leb (2 ^ 64) (spent tally before charge)) 15 0
 
--- the charge added at the depth before, and an opened frame's place set to 0
+-- "the charge, which is added at the depth before"
+abbrev pub charged : List ℕ → ℕ → ℕ → List ℕ
+charged tally before charge = set tally before (spent tally before charge)
+
+-- the charge added, and "an opened frame's place is set to 0"
 abbrev pub entered : List ℕ → ℕ → ℕ → ℕ → List ℕ
-entered tally before after charge =
-    cond (ltb before after) (set (set tally before (spent tally before charge)) after 0) (set tally before (spent tally before charge))
+entered tally before after charge = cond (ltb before after) (set (charged tally before charge) after 0) (charged tally before charge)
 
 -- the answer for a number: `Entered` for 0, and a refusal by its number
 abbrev pub enterAnswer : ℕ → EnterAnswer

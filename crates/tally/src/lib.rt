@@ -1,6 +1,6 @@
 // The spend tally: what each frame was charged while it was the current one, by depth.
 ghost use mathlib.Core.Path.{_≡_};
-ghost use Rattle.tally.specs.Tally.{badDepths, enterOf, tallyAfter};
+ghost use Rattle.tally.specs.Tally.{badEntry, enterOf, tallyAfter};
 
 pub enum EnterAnswer {
     Entered,
@@ -9,9 +9,9 @@ pub enum EnterAnswer {
 
 const REFUSAL: u32 = 15;
 
-// Whether a tally of this size lacks a place for a depth, or the depths are above the limit or more than 1 apart.
-fn bad_depths(size: usize, limit: u32, before: u32, after: u32) -> bool
-    ensures { λ r. ⌜ r ≡ badDepths size limit before after ⌝ }
+// Whether the tally is shorter than limit plus 1, or the depths are above the limit or more than 1 apart.
+fn bad_entry(size: usize, limit: u32, before: u32, after: u32) -> bool
+    ensures { λ r. ⌜ r ≡ badEntry size limit before after ⌝ }
 {
     let before64 = before as u64;
     let after64 = after as u64;
@@ -27,7 +27,7 @@ pub fn enter(tally: &mut [u64], limit: u32, before: u32, after: u32, charge: u32
     ensures { λ r. ⌜ (r ≡ enterOf (now (tally .entry)) limit before after charge)
         × (now (tally .exit) ≡ tallyAfter (now (tally .entry)) limit before after charge) ⌝ }
 {
-    if bad_depths(tally.len(), limit, before, after) {
+    if bad_entry(tally.len(), limit, before, after) {
         return EnterAnswer::Refused(REFUSAL);
     }
     let place = before as usize;

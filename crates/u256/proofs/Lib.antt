@@ -1,2 +1,3 @@
 pub mod WordLaws
 pub mod U256Laws
+pub mod Examples

@@ -7,7 +7,7 @@ use native.Mathlib.Nat.{add-zero}
 use lib.Dec.{leb, ltb, eqb, lit<}
 use lib.Pow.{shr-shr, mod-mod-pow, mod-pow-add}
 use mir.Val.{boolByte}
-use borrow.Author.Tests.{ltb-true, ltb-false, lt-ltb, le-ltb, leb-true, leb-false, le-leb, lt-leb, eqb-true, eqb-false, eq-eqb, ne-eqb}
+use borrow.Author.Tests.{ltb-true, ltb-false, le-leb, lt-leb, eqb-true, eqb-false, eq-eqb, ne-eqb}
 use Rattle.u256.specs.declared.U256.{U256}
 use Rattle.u256.specs.declared.Overflowing.{Overflowing}
 use Rattle.u256.specs.declared.Digit.{Digit}
@@ -94,15 +94,15 @@ complement-step x X Y P h e = omega arith
 
 -- the ranges of the words
 pub record Words (a : U256) : Type 0 where
-  pub h0 : a .w0 < 2 ^ 64
-  pub h1 : a .w1 < 2 ^ 64
-  pub h2 : a .w2 < 2 ^ 64
-  pub h3 : a .w3 < 2 ^ 64
+  pub w0-fits : a .w0 < 2 ^ 64
+  pub w1-fits : a .w1 < 2 ^ 64
+  pub w2-fits : a .w2 < 2 ^ 64
+  pub w3-fits : a .w3 < 2 ^ 64
 
 complement-value : (a : U256) → Words a → valueOf (complementOf a) + valueOf a + 1 ≡ 2 ^ 256
 complement-value a h =
-    complement-step (a .w0) _ _ (2 ^ 192) (h .h0)
-    (complement-step (a .w1) _ _ (2 ^ 128) (h .h1) (complement-step (a .w2) _ _ (2 ^ 64) (h .h2) (top (a .w3) (h .h3))))
+    complement-step (a .w0) _ _ (2 ^ 192) (h .w0-fits)
+    (complement-step (a .w1) _ _ (2 ^ 128) (h .w1-fits) (complement-step (a .w2) _ _ (2 ^ 64) (h .w2-fits) (top (a .w3) (h .w3-fits))))
   where
     top : (x : ℕ) → x < 2 ^ 64 → 2 ^ 64 - 1 - x + x + 1 ≡ 2 ^ 64
     top x h = omega arith
@@ -174,10 +174,10 @@ digit x r h = omega arith
 -- the words of a value's number are the value's own
 pub words-of-value : (a : U256) → Words a → wordsOf (valueOf a) ≡ a
 words-of-value a h =
-    let q0 = digit (a .w0) (from1 a) (h .h0) in
-    let q1 = digit (a .w1) (from2 a) (h .h1) in
-    let q2 = digit (a .w2) (a .w3) (h .h2) in
-    rw (← shr-shr (valueOf a) 128 64, ← shr-shr (valueOf a) 64 64, q0 .0, q0 .1, q1 .0, q1 .1, q2 .0, q2 .1, low-small 64 (h .h3))
+    let q0 = digit (a .w0) (from1 a) (h .w0-fits) in
+    let q1 = digit (a .w1) (from2 a) (h .w1-fits) in
+    let q2 = digit (a .w2) (a .w3) (h .w2-fits) in
+    rw (← shr-shr (valueOf a) 128 64, ← shr-shr (valueOf a) 64 64, q0 .0, q0 .1, q1 .0, q1 .1, q2 .0, q2 .1, low-small 64 (h .w3-fits))
 
 -- a number's words hold its lowest 256 bits
 pub value-of-words : (n : ℕ) → valueOf (wordsOf n) ≡ n % 2 ^ 256

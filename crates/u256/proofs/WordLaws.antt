@@ -1,9 +1,9 @@
 -- Laws of words, with the width as a parameter. Assumes nothing.
 use Prim.Native.Nat.{ℕ, zero, _+_, _-_, _*_, _/_, _%_, _^_, _≤_, _<_}
 use mathlib.Core.Bool.{Bool, true, false, not}
-use mathlib.Core.Path.{_≡_, refl, sym, ap, _∙_}
+use mathlib.Core.Path.{_≡_, refl, ap, _∙_}
 use native.Mathlib.Omega.{arith}
-use native.Mathlib.Nat.{mul-comm, mul-assoc, add-zero, add-mul-mod-self-left, mod-add-mod, add-mod-right, mod-eq-of-lt, mod-eq-sub-mod, mod-lt, div-eq-of-lt, le-div-iff-mul-le, one-mul}
+use native.Mathlib.Nat.{mul-comm, mul-assoc, add-zero, sub-zero, add-mul-mod-self-left, mod-add-mod, add-mod-right, mod-eq-of-lt, mod-eq-sub-mod, mod-lt, div-eq-of-lt, le-div-iff-mul-le, one-mul}
 use lib.Dec.{leb, ltb, eqb}
 use lib.Pow.{pow-pos, pow-add, field, mod-mod-pow}
 use borrow.Author.Tests.{leb-true, leb-false, ltb-true, ltb-false, eq-eqb, ne-eqb}
@@ -35,9 +35,6 @@ sum-zero w {a} h = rw (add-zero a) (mod-eq-of-lt h)
 
 pub difference-zero : (w : ℕ) {a : ℕ} → a < 2 ^ w → wrappingDifference w a 0 ≡ a
 difference-zero w {a} h = rw (sub-zero (a + 2 ^ w), add-mod-right a (2 ^ w)) (mod-eq-of-lt h)
-  where
-    sub-zero : (n : ℕ) → n - 0 ≡ n
-    sub-zero n = omega arith
 
 -- a difference is undone by the sum
 pub sum-of-difference : (w : ℕ) {a b : ℕ} → a < 2 ^ w → b ≤ 2 ^ w → wrappingSum w (wrappingDifference w a b) b ≡ a

@@ -7,7 +7,7 @@ use lib.Dec.{leb, ltb}
 abbrev pub low : ℕ → ℕ → ℕ
 low w n = n % 2 ^ w
 
--- "modulo 65,536" at w = 16; (a + b) modulo 2 ^ w
+-- (a + b) modulo 2 ^ w: at w = 16, document 01's "modulo 65,536"
 abbrev pub wrappingSum : ℕ → ℕ → ℕ → ℕ
 wrappingSum w a b = (a + b) % 2 ^ w
 

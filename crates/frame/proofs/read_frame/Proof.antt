@@ -4,7 +4,7 @@ use Rattle.frame.proofs.read_frame.Statement.{statement}
 use Rattle.frame.proofs.read_frame.Tie as tie
 
 returns : tie.Need-returns
-returns c = search laws.read-missing
+returns c = let a = c .before .before .args in laws.read-missing 16 (a .store .now) (a .i) (c .if1 .taken)
 
 mul-start : tie.Need-mul-start
 mul-start c = search needs
@@ -31,10 +31,16 @@ read-requires : tie.Need-read-requires
 read-requires c κs = search laws.read-bounds
 
 returns-2 : tie.Need-returns-2
-returns-2 c = search laws.read-good
+returns-2 c =
+    let there = c .before .before .before .before in
+    let a = there .before .before .args in
+    laws.read-good 16 (a .store .now) (a .i) (there .if1 .left) _ (c .before .before .is-good .ensures) (c .before .if2 .taken) _ (c .read .ensures)
 
 returns-3 : tie.Need-returns-3
-returns-3 c = search laws.read-not-good
+returns-3 c =
+    let there = c .before .before .before in
+    let a = there .before .before .args in
+    laws.read-not-good 16 (a .store .now) (a .i) (there .if1 .left) _ (c .before .is-good .ensures) (c .if2 .left)
 
 pub read-frame-spec : {M : Type 1} → statement M
 read-frame-spec =

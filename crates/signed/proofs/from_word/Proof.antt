@@ -13,7 +13,7 @@ cast-result-2 : tie.Need-cast-result-2
 cast-result-2 c = search needs
 
 sub-result-2 : tie.Need-sub-result-2
-sub-result-2 c = laws.signed-fits _ (c .if1 .left) (search needs)
+sub-result-2 c = search (needs, laws.signed-fits)
 
 returns : tie.Need-returns
 returns c = laws.signed-lower _ (c .if1 .taken)

@@ -1,3 +1,4 @@
+use native.Mathlib.Omega.{arith}
 use lib.IntN.{negsuc, _-ℤ_}
 use Rattle.signed.proofs.SignedLaws as laws
 use Rattle.signed.proofs.to_word.Statement.{statement}
@@ -17,7 +18,7 @@ cast-result-2 : tie.Need-cast-result-2
 cast-result-2 c = flips c .cast
 
 sub-result-2 : tie.Need-sub-result-2
-sub-result-2 c = flips c .small
+sub-result-2 c = omega (arith, flips c .small)
 
 returns : tie.Need-returns
 returns c = laws.word-natural _ (c .before .fits .x) (c .if1 .taken)

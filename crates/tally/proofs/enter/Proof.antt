@@ -1,4 +1,5 @@
 use mathlib.Core.Path.{sym, _∙_}
+use native.Mathlib.Omega.{arith}
 use lib.ListN.{length-set}
 use borrow.Author.Needs.{needs}
 use Rattle.tally.proofs.TallyLaws as laws
@@ -6,19 +7,19 @@ use Rattle.tally.proofs.enter.Statement.{statement}
 use Rattle.tally.proofs.enter.Tie as tie
 
 entry : (c : tie.Else1) → let a = c .before .before .before .args in laws.Entry (a .tally .now) (a .limit) (a .before) (a .after) (a .charge)
-entry c = record { depths = sym (c .before .bad-depths .ensures) ∙ c .if1 .left; width = search needs }
+entry c = record { good = sym (c .before .bad-entry .ensures) ∙ c .if1 .left; width = search needs }
 
-bad-depths-requires : tie.Need-bad-depths-requires
-bad-depths-requires c κs = search needs
+bad-entry-requires : tie.Need-bad-entry-requires
+bad-entry-requires c κs = search needs
 
 returns : tie.Need-returns
-returns c = let a = c .before .before .before .args in laws.refused-depths (a .tally .now) (a .limit) (a .before) (a .after) (a .charge) _ (c .before .bad-depths .ensures) (c .if1 .taken)
+returns c = let a = c .before .before .before .args in laws.refused-entry (a .tally .now) (a .limit) (a .before) (a .after) (a .charge) _ (c .before .bad-entry .ensures) (c .if1 .taken)
 
 mul-spent : tie.Need-mul-spent
 mul-spent c = search needs
 
 slice-read-spent : tie.Need-slice-read-spent
-slice-read-spent c = laws.places (entry (c .before)) .0
+slice-read-spent c = omega (arith, laws.places (entry (c .before)))
 
 sub-if2 : tie.Need-sub-if2
 sub-if2 c = search needs
@@ -33,13 +34,13 @@ mul-tally : tie.Need-mul-tally
 mul-tally c = search needs
 
 slice-write-tally : tie.Need-slice-write-tally
-slice-write-tally c = laws.places (entry (c .before .before)) .0
+slice-write-tally c = omega (arith, laws.places (entry (c .before .before)))
 
 mul-tally-2 : tie.Need-mul-tally-2
 mul-tally-2 c = search needs
 
 slice-write-tally-2 : tie.Need-slice-write-tally-2
-slice-write-tally-2 c = simp length-set (laws.places (entry (c .before .before .before)) .1)
+slice-write-tally-2 c = simp length-set (omega (arith, laws.places (entry (c .before .before .before))))
 
 same-length : tie.Need-same-length
 same-length c = search needs
@@ -57,7 +58,7 @@ pub enter-spec : {M : Type 1} → statement M
 enter-spec =
     tie.close
     (tie.spec
-    bad-depths-requires
+    bad-entry-requires
     returns
     mul-spent
     slice-read-spent

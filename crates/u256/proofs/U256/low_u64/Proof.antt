@@ -1,5 +1,4 @@
 use borrow.Author.Needs.{needs}
-use mathlib.Core.Path.{refl}
 use Rattle.u256.proofs.U256Laws as laws
 use Rattle.u256.proofs.U256.low_u64.Statement.{statement}
 use Rattle.u256.proofs.U256.low_u64.Tie as tie
