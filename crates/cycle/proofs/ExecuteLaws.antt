@@ -55,10 +55,11 @@ module _ (settings : Settings) (word : U256) (pointer : Bool) (s : State) (store
   abbrev op : ℕ
   op = recordOf s .operation
 
-  pub refused : (n ≡ 0 → ⊥) → (refusedWith s n ≡ executeOf settings word pointer s store) × (store ≡ executeStore settings word pointer s store)
+  pub refused : (n ≡ 0 → ⊥) → (r : Executed) → r ≡ refusedWith s n
+      → (r ≡ executeOf settings word pointer s store) × (store ≡ executeStore settings word pointer s store)
   unfolding executeOf executeStore
-  refused t =
-      (rw (← es, ← ez, ← eg, ← ek, ← eh, ← en, ne-eqb n 0 t), rw (← es, ← ez, ← eg, ← ek, ← eh, ← en, ne-eqb n 0 t))
+  refused t r e =
+      (rw (← es, ← ez, ← eg, ← ek, ← eh, ← en, ne-eqb n 0 t) e, rw (← es, ← ez, ← eg, ← ek, ← eh, ← en, ne-eqb n 0 t))
 
   module _ (z : n ≡ 0) where
     pub sized : badStore settings s store ≡ false

@@ -1,7 +1,7 @@
 -- What the operations of execute share: times that fit, and nop. Assumes nothing.
 use Prim.Native.Nat.{ℕ, _+_, _^_, _<_}
 use mathlib.Core.Bool.{Bool, true, false, not, _&&_, _||_}
-use mathlib.Core.Path.{_≡_, refl, sym, _∙_, subst}
+use mathlib.Core.Path.{_≡_, refl, subst}
 use lib.Dec.{T, leb}
 use mir.Syntax.{w32}
 use mir.Val.{Fits}
@@ -9,15 +9,15 @@ use borrow.Author.Tests.{leb-false}
 use Rattle.rules.specs.declared.Settings.{Settings}
 use Rattle.rules.specs.declared.Location.{Location}
 use Rattle.rules.specs.declared.PrimitiveValue.{PrimitiveValue}
-use Rattle.rules.specs.Time.{nextPc, timeAfter, isLate}
+use Rattle.rules.specs.Time.{nextPc}
 use Rattle.cycle.specs.declared.State.{State}
 use Rattle.cycle.specs.declared.Write.{Write}
 use Rattle.cycle.specs.declared.Event.{Event}
 use Rattle.cycle.specs.declared.Executed.{Executed}
 use Rattle.cycle.specs.declared.ExecuteAnswer.{ExecuteAnswer}
 use Rattle.cycle.specs.State.{isEnded}
-use Rattle.cycle.specs.Effects.{finishedState, movedState}
-use Rattle.cycle.specs.Helpers.{lateIn, isStored, writeOf, refusedWith, nopDone, nopOf}
+use Rattle.cycle.specs.Effects.{movedState}
+use Rattle.cycle.specs.Helpers.{lateIn, finishedIn, isStored, writeOf, refusedWith, nopDone, nopOf}
 
 pub or-parts : (a b : Bool) → (a || b) ≡ false → (a ≡ false) × (b ≡ false)
 or-parts false b e = (refl, e)
@@ -29,9 +29,9 @@ pub record InTime (settings : Settings) (s : State) : Type 0 where
   pub time : isEnded s ≡ false → s .timestamp + settings .«time_step» < 2 ^ 32
   pub counter : s .«monotonic_cycle_counter» + 1 < 2 ^ 32
 
-pub in-time : (settings : Settings) (s : State) (late : Bool) → late ≡ lateIn settings s → late ≡ false → InTime settings s
-in-time settings s late e f =
-    let p = or-parts (not (isEnded s) && leb (2 ^ 32) (s .timestamp + settings .«time_step»)) (leb (2 ^ 32) (s .«monotonic_cycle_counter» + 1)) (sym e ∙ f) in
+pub in-time : (settings : Settings) (s : State) → lateIn settings s ≡ false → InTime settings s
+in-time settings s e =
+    let p = or-parts (not (isEnded s) && leb (2 ^ 32) (s .timestamp + settings .«time_step»)) (leb (2 ^ 32) (s .«monotonic_cycle_counter» + 1)) e in
     record {
       time = λ z. leb-false (2 ^ 32) (s .timestamp + settings .«time_step») (going (isEnded s) _ (p .0) z);
       counter = leb-false (2 ^ 32) (s .«monotonic_cycle_counter» + 1) (p .1);
@@ -51,16 +51,14 @@ write-at l time kind page index value e = rw e
 
 -- ---- nop
 module _ (settings : Settings) (s : State) (late : Bool) (el : late ≡ lateIn settings s) where
-  pub nop-refused : late ≡ true → refusedWith s 14 ≡ nopOf settings s
+  pub nop-refused : late ≡ true → (r : Executed) → r ≡ refusedWith s 14 → r ≡ nopOf settings s
   unfolding nopOf
-  nop-refused t = rw (← el, t)
+  nop-refused t r e = rw (← el, t) e
 
   pub nop-done : late ≡ false
       → (pc : ℕ) → pc ≡ nextPc 16 (s .current .pc) (isEnded s)
-      → (time : ℕ) → time ≡ timeAfter (s .timestamp) (settings .«time_step») (isEnded s)
-      → (counter : ℕ) → counter ≡ s .«monotonic_cycle_counter» + 1
-      → (base : State) → base ≡ finishedState s time counter
+      → (base : State) → base ≡ finishedIn settings s
       → (next : State) → next ≡ movedState base pc
       → _≡_ {A = Executed} (record { state = next; answer = ExecuteAnswer.Done Write.None Event.None }) (nopOf settings s)
   unfolding nopOf nopDone
-  nop-done z pc ep time et counter ec base eb next ex = rw (← el, z, ex, eb, ep, et, ec)
+  nop-done z pc ep base eb next ex = rw (← el, z, ex, eb, ep)

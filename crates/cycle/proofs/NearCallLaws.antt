@@ -6,17 +6,16 @@ use mathlib.Core.List.{List, [], _∷_}
 use native.Mathlib.Omega.{arith}
 use lib.Dec.{eqb, ltb}
 use lib.ListN.{length}
-use borrow.Author.Tests.{eq-eqb, ne-eqb, eqb-false, ltb-false, lt-ltb}
+use borrow.Author.Tests.{eq-eqb, ne-eqb, eqb-false, ltb-false}
 use Rattle.frame.specs.declared.Frame.{Frame}
-use Rattle.frame.specs.declared.SaveAnswer.{SaveAnswer}
 use Rattle.frame.specs.declared.PubdataCost.{PubdataCost}
 use Rattle.frame.specs.Refusal.{_refuses_}
 use Rattle.frame.specs.Row.{rowWidth}
-use Rattle.frame.specs.Store.{wholeRows, saveOf, savedStore, storeWith}
+use Rattle.frame.specs.Store.{wholeRows, savedStore}
 use Rattle.rules.specs.declared.Settings.{Settings}
 use Rattle.rules.specs.declared.Flags.{Flags}
 use Rattle.rules.specs.NearCall.{wantedErgs, passedErgs, callerOf, openedOf}
-use Rattle.rules.specs.Time.{nextPc, timeAfter}
+use Rattle.rules.specs.Time.{nextPc}
 use Rattle.rules.proofs.RefusalLaws.{clear}
 use Rattle.cycle.specs.declared.State.{State}
 use Rattle.cycle.specs.declared.Write.{Write}
@@ -24,10 +23,10 @@ use Rattle.cycle.specs.declared.Event.{Event}
 use Rattle.cycle.specs.declared.Executed.{Executed}
 use Rattle.cycle.specs.declared.ExecuteAnswer.{ExecuteAnswer}
 use Rattle.cycle.specs.State.{isEnded, badStore}
-use Rattle.cycle.specs.Effects.{noFlags, finishedState, switchedState}
-use Rattle.cycle.specs.Helpers.{lateIn, refusedWith}
+use Rattle.cycle.specs.Effects.{noFlags, switchedState}
+use Rattle.cycle.specs.Helpers.{lateIn, finishedIn, refusedWith}
 use Rattle.cycle.specs.NearCall.{callRefusal, nearCallDone, nearCallOf, nearCallStore}
-use Rattle.cycle.proofs.HelperLaws.{or-parts, InTime, in-time}
+use Rattle.cycle.proofs.HelperLaws.{or-parts}
 
 -- below the limit a row is free, and the depth has room
 pub room : (limit depth words : ℕ) → (eqb limit 0 || ltb (words / rowWidth) limit || ltb limit depth) ≡ false → (depth ≡ limit → ⊥)
@@ -39,15 +38,14 @@ room limit depth words e n =
 
 module _ (settings : Settings) (want : ℕ) (s : State) (store : List ℕ) (late : Bool) (el : late ≡ lateIn settings s)
     (n : ℕ) (en : n ≡ callRefusal (eqb (s .depth) (settings .«depth_limit»)) late) where
-  pub refused : (n ≡ 0 → ⊥) → (refusedWith s n ≡ nearCallOf settings want s) × (store ≡ nearCallStore settings want s store)
+  pub refused : (n ≡ 0 → ⊥) → (r : Executed) → r ≡ refusedWith s n → (r ≡ nearCallOf settings want s) × (store ≡ nearCallStore settings want s store)
   unfolding nearCallOf nearCallStore
-  refused t = (rw (← el, ← en, ne-eqb n 0 t), rw (← el, ← en, ne-eqb n 0 t))
+  refused t r e = (rw (← el, ← en, ne-eqb n 0 t) e, rw (← el, ← en, ne-eqb n 0 t))
 
   module _ (z : n ≡ 0) where
-    pub timely : InTime settings s
+    pub timely : lateIn settings s ≡ false
     timely =
-        in-time settings s late el
-        (clear ((eqb (s .depth) (settings .«depth_limit») refuses 9) ∷ (late refuses 14) ∷ []) tt (sym en ∙ z) .1 .0)
+        sym el ∙ clear ((eqb (s .depth) (settings .«depth_limit») refuses 9) ∷ (late refuses 14) ∷ []) tt (sym en ∙ z) .1 .0
 
     free : badStore settings s store ≡ false → (s .depth < wholeRows store) × (s .depth < settings .«depth_limit»)
     free b =
@@ -57,24 +55,21 @@ module _ (settings : Settings) (want : ℕ) (s : State) (store : List ℕ) (late
     pub deeper : badStore settings s store ≡ false → settings .«depth_limit» < 2 ^ 32 → s .depth + 1 < 2 ^ 32
     deeper b h = let k = free b .1 in omega arith
 
-    pub done : badStore settings s store ≡ false
-        → (wanted : ℕ) → wanted ≡ wantedErgs want (settings .«near_call_multiplier»)
+    pub done : (wanted : ℕ) → wanted ≡ wantedErgs want (settings .«near_call_multiplier»)
         → (passed : ℕ) → passed ≡ passedErgs wanted (s .current .«ergs_remaining»)
         → (pc : ℕ) → pc ≡ nextPc 16 (s .current .pc) (isEnded s)
         → (left : ℕ) → left ≡ s .current .«ergs_remaining» - passed
         → (caller : Frame) → caller ≡ callerOf (s .current) left pc
         → (after : List ℕ) → after ≡ savedStore store (s .depth) caller
         → (opened : Frame) → opened ≡ openedOf caller passed (s .kept .instruction .«imm_0») (s .kept .instruction .«imm_1»)
-        → (time : ℕ) → time ≡ timeAfter (s .timestamp) (settings .«time_step») (isEnded s)
-        → (counter : ℕ) → counter ≡ s .«monotonic_cycle_counter» + 1
-        → (base : State) → base ≡ finishedState s time counter
+        → (base : State) → base ≡ finishedIn settings s
         → (depth : ℕ) → depth ≡ s .depth + 1
         → (flags : Flags) → flags ≡ noFlags
         → (next : State) → next ≡ switchedState base opened depth flags (s .«pubdata_revert_counter»)
         → (_≡_ {A = Executed} (record { state = next; answer = ExecuteAnswer.Done Write.None Event.Opened }) (nearCallOf settings want s))
         × (after ≡ nearCallStore settings want s store)
-    unfolding nearCallOf nearCallDone nearCallStore savedStore
-    done b wanted ew passed ep pc epc left ef caller ec after ea opened eo time et counter ek base eb depth ed flags eg next ex = (
-      rw (← el, ← en, eq-eqb n 0 z, ex, eb, eo, ed, eg, et, ek, ec, ef, ep, ew, epc),
-      rw (← el, ← en, eq-eqb n 0 z, ea, lt-ltb (s .depth) (wholeRows store) (free b .0), ec, ef, ep, ew, epc),
+    unfolding nearCallOf nearCallDone nearCallStore
+    done wanted ew passed ep pc epc left ef caller ec after ea opened eo base eb depth ed flags eg next ex = (
+      rw (← el, ← en, eq-eqb n 0 z, ex, eb, eo, ed, eg, ec, ef, ep, ew, epc),
+      rw (← el, ← en, eq-eqb n 0 z, ea, ec, ef, ep, ew, epc),
     )

@@ -1,6 +1,6 @@
 -- Return: from what its parts give to what it gives. Assumes nothing.
 use Prim.Native.Nat.{ℕ, _+_, _-_, _^_, _<_}
-use mathlib.Core.Bool.{Bool, not}
+use mathlib.Core.Bool.{Bool, false, not}
 use mathlib.Core.Path.{_≡_, sym, _∙_}
 use mathlib.Core.List.{List, [], _∷_}
 use lib.Dec.{eqb}
@@ -13,73 +13,73 @@ use Rattle.frame.specs.Refusal.{_refuses_}
 use Rattle.frame.specs.Store.{readOf}
 use Rattle.rules.specs.declared.Settings.{Settings}
 use Rattle.rules.specs.declared.Flags.{Flags}
-use Rattle.rules.specs.Ret.{isOutside, isBadCounter, costOf, returnPc, closeRefusal, ergsPast, isShrunk, resumedOf}
-use Rattle.rules.specs.Time.{timeAfter}
-use Rattle.rules.proofs.RefusalLaws.{Clear, clear}
+use Rattle.rules.specs.Ret.{pubdataAfter, counterAfter, isOutside, isBadCounter, ergsPast, isShrunk, costOf, closeRefusal, resumedOf}
+use Rattle.rules.proofs.RefusalLaws.{clear}
 use Rattle.cycle.specs.declared.State.{State}
 use Rattle.cycle.specs.declared.Write.{Write}
 use Rattle.cycle.specs.declared.Event.{Event}
 use Rattle.cycle.specs.declared.Executed.{Executed}
 use Rattle.cycle.specs.declared.ExecuteAnswer.{ExecuteAnswer}
-use Rattle.cycle.specs.State.{isEnded}
-use Rattle.cycle.specs.Effects.{finishedState, switchedState}
-use Rattle.cycle.specs.Helpers.{lateIn, refusedWith}
-use Rattle.cycle.specs.Ret.{isOk, panicFlags, returnRefusal, pubdataIn, counterIn, closeDone, closeOf, returnOf}
-use Rattle.cycle.proofs.HelperLaws.{InTime, in-time}
+use Rattle.cycle.specs.Effects.{switchedState}
+use Rattle.cycle.specs.Helpers.{lateIn, finishedIn, refusedWith}
+use Rattle.cycle.specs.Ret.{isOk, panicFlags, returnRefusal, closeDone, closeOf, returnOf}
 
-module _ (settings : Settings) (caller : Frame) (s : State)
-    (pubdata : Checked) (ep : pubdata ≡ pubdataIn s caller) (counter : Checked) (ek : counter ≡ counterIn s)
-    (past : Bool) (eg : past ≡ ergsPast (caller .«ergs_remaining») (s .current .«ergs_remaining»))
-    (late : Bool) (el : late ≡ lateIn settings s)
-    (outside : Bool) (eo : outside ≡ isOutside pubdata) (bad : Bool) (eb : bad ≡ isBadCounter counter)
-    (shrunk : Bool) (es : shrunk ≡ isShrunk caller (s .current))
-    (n : ℕ) (en : n ≡ closeRefusal outside bad past shrunk late) where
-  pub close-refused : (n ≡ 0 → ⊥) → refusedWith s n ≡ closeOf settings caller s
+module _ (settings : Settings) (caller : Frame) (s : State) (late : Bool) (el : late ≡ lateIn settings s)
+    (n : ℕ) (en : n ≡ closeRefusal (isOk s) caller (s .current) (s .«pubdata_revert_counter») late) where
+  pub close-refused : (n ≡ 0 → ⊥) → (r : Executed) → r ≡ refusedWith s n → r ≡ closeOf settings caller s
   unfolding closeOf
-  close-refused t = rw (← ep, ← ek, ← eg, ← el, ← eo, ← eb, ← es, ← en, ne-eqb n 0 t)
+  close-refused t r e = rw (← el, ← en, ne-eqb n 0 t) e
+
+  abbrev past : Bool
+  past = ergsPast (caller .«ergs_remaining») (s .current .«ergs_remaining»)
 
   module _ (z : n ≡ 0) where
-    none : Clear ((outside refuses 10) ∷ (bad refuses 11) ∷ (past refuses 12) ∷ (shrunk refuses 13) ∷ (late refuses 14) ∷ [])
+    none : (past ≡ false) × (late ≡ false)
     none =
-        clear ((outside refuses 10) ∷ (bad refuses 11) ∷ (past refuses 12) ∷ (shrunk refuses 13) ∷ (late refuses 14) ∷ []) tt (sym en ∙ z)
+        let p =
+        clear
+        ((isOutside (pubdataAfter (isOk s) (caller .«total_pubdata_spent» .0) (s .current .«total_pubdata_spent» .0)) refuses 10)
+        ∷ (isBadCounter (counterAfter (isOk s) (s .«pubdata_revert_counter» .0) (s .current .«total_pubdata_spent» .0)) refuses 11)
+        ∷ (past refuses 12)
+        ∷ (isShrunk caller (s .current) refuses 13)
+        ∷ (late refuses 14)
+        ∷ [])
+        tt (sym en ∙ z) .1 .1 in
+        (p .0, p .1 .1 .0)
 
     pub close-ergs : caller .«ergs_remaining» + s .current .«ergs_remaining» < 2 ^ 32
-    close-ergs = leb-false (2 ^ 32) (caller .«ergs_remaining» + s .current .«ergs_remaining») (sym eg ∙ none .1 .1 .0)
+    close-ergs = leb-false (2 ^ 32) (caller .«ergs_remaining» + s .current .«ergs_remaining») (none .0)
 
-    pub close-timely : InTime settings s
-    close-timely = in-time settings s late el (none .1 .1 .1 .1 .0)
+    pub close-timely : lateIn settings s ≡ false
+    close-timely = sym el ∙ none .1
 
     pub close-done : (ergs : ℕ) → ergs ≡ caller .«ergs_remaining» + s .current .«ergs_remaining»
-        → (pc : ℕ)
-        → pc ≡ returnPc (isOk s) (s .kept .instruction .«to_label») (s .kept .instruction .«imm_0») (s .current .«exception_handler_location») (caller .pc)
-        → (cost : PubdataCost) → cost ≡ costOf pubdata
-        → (f : Frame) → f ≡ resumedOf caller (s .current .«heap_bound») (s .current .«aux_heap_bound») cost ergs pc
-        → (time : ℕ) → time ≡ timeAfter (s .timestamp) (settings .«time_step») (isEnded s)
-        → (cycles : ℕ) → cycles ≡ s .«monotonic_cycle_counter» + 1
-        → (flags : Flags) → flags ≡ panicFlags (eqb (s .kept .instruction .«return_kind») 2)
-        → (base : State) → base ≡ finishedState s time cycles
-        → (depth : ℕ) → depth ≡ s .depth - 1
+        → (f : Frame) → f ≡ resumedOf (s .kept .instruction) caller (s .current) ergs
+        → (counter : Checked) → counter ≡ counterAfter (isOk s) (s .«pubdata_revert_counter» .0) (s .current .«total_pubdata_spent» .0)
         → (reverts : PubdataCost) → reverts ≡ costOf counter
+        → (flags : Flags) → flags ≡ panicFlags (eqb (s .kept .instruction .«return_kind») 2)
+        → (depth : ℕ) → depth ≡ s .depth - 1
+        → (base : State) → base ≡ finishedIn settings s
         → (next : State) → next ≡ switchedState base f depth flags reverts
         → _≡_ {A = Executed} (record { state = next; answer = ExecuteAnswer.Done Write.None (Event.Closed (not (isOk s))) }) (closeOf settings caller s)
     unfolding closeOf closeDone
-    close-done ergs e1 pc e2 cost e3 f e4 time e5 cycles e6 flags e7 base e8 depth e9 reverts e10 next ex =
-        rw (← ep, ← ek, ← eg, ← el, ← eo, ← eb, ← es, ← en, eq-eqb n 0 z, ex, e8, e4, e5, e6, e7, e9, e10, e3, e1, e2)
+    close-done ergs e1 f e2 counter e3 reverts e4 flags e5 depth e6 base e7 next ex =
+        rw (← el, ← en, eq-eqb n 0 z, ex, e7, e2, e4, e3, e5, e6, e1)
 
 module _ (settings : Settings) (s : State) (store : List ℕ) (n : ℕ) (en : n ≡ returnRefusal (s .current .«is_local_frame») (s .depth)) where
-  pub refused : (n ≡ 0 → ⊥) → refusedWith s n ≡ returnOf settings s store
+  pub refused : (n ≡ 0 → ⊥) → (r : Executed) → r ≡ refusedWith s n → r ≡ returnOf settings s store
   unfolding returnOf
-  refused t = rw (← en, ne-eqb n 0 t)
+  refused t r e = rw (← en, ne-eqb n 0 t) e
 
-  module _ (z : n ≡ 0) (i : ℕ) (ei : i ≡ s .depth - 1) (row : ReadAnswer) (er : row ≡ readOf store i) where
+  module _ (z : n ≡ 0) (i : ℕ) (ei : i ≡ s .depth - 1) (row : ReadAnswer) (er : row ≡ readOf 16 store i) where
     pub good : (caller : Frame) → row ≡ ReadAnswer.Good caller → (r : Executed) → r ≡ closeOf settings caller s → r ≡ returnOf settings s store
     unfolding returnOf
     good caller e r ex = rw (← en, eq-eqb n 0 z, ← ei, ← er, e) ex
 
-    pub missing : row ≡ ReadAnswer.Missing → refusedWith s 8 ≡ returnOf settings s store
+    pub missing : row ≡ ReadAnswer.Missing → (r : Executed) → r ≡ refusedWith s 8 → r ≡ returnOf settings s store
     unfolding returnOf
-    missing e = rw (← en, eq-eqb n 0 z, ← ei, ← er, e)
+    missing e r ex = rw (← en, eq-eqb n 0 z, ← ei, ← er, e) ex
 
-    pub not-good : row ≡ ReadAnswer.NotGood → refusedWith s 8 ≡ returnOf settings s store
+    pub not-good : row ≡ ReadAnswer.NotGood → (r : Executed) → r ≡ refusedWith s 8 → r ≡ returnOf settings s store
     unfolding returnOf
-    not-good e = rw (← en, eq-eqb n 0 z, ← ei, ← er, e)
+    not-good e r ex = rw (← en, eq-eqb n 0 z, ← ei, ← er, e) ex

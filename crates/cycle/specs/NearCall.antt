@@ -6,7 +6,7 @@ use mathlib.Core.List.{List, [], _∷_}
 use lib.Dec.{eqb}
 use Rattle.frame.specs.declared.Frame.{Frame}
 use Rattle.frame.specs.Refusal.{firstOf, _refuses_}
-use Rattle.frame.specs.Store.{storeWith}
+use Rattle.frame.specs.Store.{savedStore}
 use Rattle.rules.specs.declared.Settings.{Settings}
 use Rattle.rules.specs.NearCall.{wantedErgs, passedErgs, callerOf, openedOf}
 use Rattle.rules.specs.Time.{nextPc}
@@ -51,4 +51,4 @@ nearCallOf settings want s = settled (callRefusalIn settings s) (refusedWith s) 
 -- the store afterwards: on a refusal, what was given
 unfoldable pub nearCallStore : Settings → ℕ → State → List ℕ → List ℕ
 nearCallStore settings want s store =
-    cond (eqb (callRefusalIn settings s) 0) (storeWith store (s .depth) (callerIn settings want s)) store
+    cond (eqb (callRefusalIn settings s) 0) (savedStore store (s .depth) (callerIn settings want s)) store

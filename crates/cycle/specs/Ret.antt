@@ -4,14 +4,14 @@ use Prim.Native.Nat.{ℕ, _+_, _-_}
 use mathlib.Core.Bool.{Bool, false, not, cond}
 use mathlib.Core.List.{List, [], _∷_}
 use lib.Dec.{eqb}
-use Rattle.signed.specs.declared.Checked.{Checked}
 use Rattle.frame.specs.declared.Frame.{Frame}
+use Rattle.frame.specs.declared.PubdataCost.{PubdataCost}
 use Rattle.frame.specs.declared.ReadAnswer.{ReadAnswer}
 use Rattle.frame.specs.Refusal.{firstOf, _refuses_}
 use Rattle.frame.specs.Store.{readOf}
 use Rattle.rules.specs.declared.Settings.{Settings}
 use Rattle.rules.specs.declared.Flags.{Flags}
-use Rattle.rules.specs.Ret.{pubdataAfter, counterAfter, isOutside, isBadCounter, costOf, returnPc, closeRefusal, ergsPast, isShrunk, resumedOf}
+use Rattle.rules.specs.Ret.{counterAfter, costOf, closeRefusal, resumedOf}
 use Rattle.cycle.specs.declared.State.{State}
 use Rattle.cycle.specs.declared.Write.{Write}
 use Rattle.cycle.specs.declared.Event.{Event}
@@ -31,29 +31,21 @@ panicFlags panic = record { «overflow_or_less_than_flag» = panic; «equality_f
 abbrev pub returnRefusal : Bool → ℕ → ℕ
 returnRefusal local depth = firstOf ((not local refuses 7) ∷ (eqb depth 0 refuses 8) ∷ [])
 
--- the caller's pubdata and the revert counter after it
-abbrev pub pubdataIn : State → Frame → Checked
-pubdataIn s caller = pubdataAfter (isOk s) (caller .«total_pubdata_spent» .0) (s .current .«total_pubdata_spent» .0)
-
-abbrev pub counterIn : State → Checked
-counterIn s = counterAfter (isOk s) (s .«pubdata_revert_counter» .0) (s .current .«total_pubdata_spent» .0)
-
 abbrev pub closeRefusalIn : Settings → Frame → State → ℕ
-closeRefusalIn settings caller s =
-    closeRefusal (isOutside (pubdataIn s caller)) (isBadCounter (counterIn s)) (ergsPast (caller .«ergs_remaining») (s .current .«ergs_remaining»))
-    (isShrunk caller (s .current)) (lateIn settings s)
+closeRefusalIn settings caller s = closeRefusal (isOk s) caller (s .current) (s .«pubdata_revert_counter») (lateIn settings s)
 
--- the caller as it goes on
-abbrev pub resumedIn : Frame → State → Frame
-resumedIn caller s =
-    resumedOf caller (s .current .«heap_bound») (s .current .«aux_heap_bound») (costOf (pubdataIn s caller))
-    (caller .«ergs_remaining» + s .current .«ergs_remaining»)
-    (returnPc (isOk s) (s .kept .instruction .«to_label») (s .kept .instruction .«imm_0») (s .current .«exception_handler_location») (caller .pc))
+-- the revert counter after it
+abbrev pub revertsIn : State → PubdataCost
+revertsIn s = costOf (counterAfter (isOk s) (s .«pubdata_revert_counter» .0) (s .current .«total_pubdata_spent» .0))
 
 unfoldable pub closeDone : Settings → Frame → State → Executed
 closeDone settings caller s = record {
   state =
-      switchedState (finishedIn settings s) (resumedIn caller s) (s .depth - 1) (panicFlags (eqb (s .kept .instruction .«return_kind») 2)) (costOf (counterIn s));
+      switchedState (finishedIn settings s)
+      (resumedOf (s .kept .instruction) caller (s .current) (caller .«ergs_remaining» + s .current .«ergs_remaining»))
+      (s .depth - 1)
+      (panicFlags (eqb (s .kept .instruction .«return_kind») 2))
+      (revertsIn s);
   answer = ExecuteAnswer.Done Write.None (Event.Closed (not (isOk s)));
 }
 
@@ -68,4 +60,4 @@ returnTo settings s ReadAnswer.NotGood = refusedWith s 8
 
 unfoldable pub returnOf : Settings → State → List ℕ → Executed
 returnOf settings s store =
-    settled (returnRefusal (s .current .«is_local_frame») (s .depth)) (refusedWith s) (returnTo settings s (readOf store (s .depth - 1)))
+    settled (returnRefusal (s .current .«is_local_frame») (s .depth)) (refusedWith s) (returnTo settings s (readOf 16 store (s .depth - 1)))

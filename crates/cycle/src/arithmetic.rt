@@ -35,39 +35,23 @@ impl State {
         let kept = self.kept;
         let instruction = kept.instruction;
         let location = kept.write;
-        let ended = self.depth == 0;
-        let late = time::is_late(
-            self.timestamp,
-            settings.time_step,
-            self.monotonic_cycle_counter,
-            ended,
-        );
         let stored = helpers::is_stored(location);
-        let n = arithmetic_refusal(late, stored, self.timestamp);
+        let n = arithmetic_refusal(self.is_late(settings), stored, self.timestamp);
         if n != 0 {
-            return Executed {
-                state: self,
-                answer: ExecuteAnswer::Refused(n),
-            };
+            return self.refused(n);
         }
         let result = arithmetic::result(instruction.operation, a, b);
         let word = result.value;
         let old = self.flags;
         let flags = arithmetic::flags_after(instruction.set_flags, old, result);
-        let pc = time::next_pc(self.current.pc, ended);
-        let after = helpers::time_after(self.timestamp, settings.time_step, ended);
-        let counter = helpers::sum(self.monotonic_cycle_counter, 1);
-        let write = helpers::write_of(
-            location,
-            self.timestamp,
-            PrimitiveValue {
-                value: word,
-                is_pointer: false,
-            },
-        );
-        let next = self.finished(after, counter)
-            .moved(pc)
-            .written(flags, register(stored, instruction.dst0), word);
+        let pc = time::next_pc(self.current.pc, self.depth == 0);
+        let value = PrimitiveValue {
+            value: word,
+            is_pointer: false,
+        };
+        let write = helpers::write_of(location, self.timestamp, value);
+        let moved = self.finish(settings).moved(pc);
+        let next = moved.written(flags, register(stored, instruction.dst0), word);
         Executed {
             state: next,
             answer: ExecuteAnswer::Done {

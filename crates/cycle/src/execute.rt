@@ -1,7 +1,6 @@
 // Execute, from the Rust's `cycle`.
 ghost use mathlib.Core.Path.{_≡_};
 ghost use Rattle.cycle.specs.Execute.{executeRefusal, executeOf, executeStore};
-use crate::ExecuteAnswer;
 use crate::Executed;
 use crate::State;
 use rules::Settings;
@@ -60,10 +59,7 @@ impl State {
         );
         let n = execute_refusal(sizes, !(self.stage == 3), bad, operation == 5, held);
         if n != 0 {
-            return Executed {
-                state: self,
-                answer: ExecuteAnswer::Refused(n),
-            };
+            return self.refused(n);
         }
         let a = src0.value;
         let b = src1.value;

@@ -4,7 +4,7 @@ ghost use mathlib.Core.Bool.{true, false};
 ghost use Prim.Native.Nat.{_+_, _^_, _<_};
 ghost use Rattle.rules.specs.Time.{timeAfter};
 ghost use Rattle.cycle.specs.Effects.{noFlags, finishedState, movedState, writtenState, switchedState};
-ghost use Rattle.cycle.specs.Helpers.{isStored, writeOf, nopOf};
+ghost use Rattle.cycle.specs.Helpers.{lateIn, finishedIn, refusedWith, isStored, writeOf, nopOf};
 use crate::Event;
 use crate::ExecuteAnswer;
 use crate::Executed;
@@ -153,27 +153,46 @@ impl State {
         self
     }
 
+    // Refusal 14 of every operation.
+    pub(crate) fn is_late(self, settings: Settings) -> bool
+        ensures { λ r. ⌜ r ≡ lateIn settings self ⌝ }
+    {
+        time::is_late(
+            self.timestamp,
+            settings.time_step,
+            self.monotonic_cycle_counter,
+            self.depth == 0,
+        )
+    }
+
+    pub(crate) fn refused(self, n: u32) -> Executed
+        ensures { λ r. ⌜ r ≡ refusedWith self n ⌝ }
+    {
+        Executed {
+            state: self,
+            answer: ExecuteAnswer::Refused(n),
+        }
+    }
+
+    // The time and the cycle counter after the cycle.
+    pub(crate) fn finish(self, settings: Settings) -> State
+        requires { ⌜ lateIn settings self ≡ false ⌝ }
+        ensures { λ r. ⌜ r ≡ finishedIn settings self ⌝ }
+    {
+        let after = time_after(self.timestamp, settings.time_step, self.depth == 0);
+        let counter = sum(self.monotonic_cycle_counter, 1);
+        self.finished(after, counter)
+    }
+
     // Nop sets pc only.
     pub(crate) fn nop(self, settings: Settings) -> Executed
         ensures { λ r. ⌜ r ≡ nopOf settings self ⌝ }
     {
-        let ended = self.depth == 0;
-        let late = time::is_late(
-            self.timestamp,
-            settings.time_step,
-            self.monotonic_cycle_counter,
-            ended,
-        );
-        if late {
-            return Executed {
-                state: self,
-                answer: ExecuteAnswer::Refused(14),
-            };
+        if self.is_late(settings) {
+            return self.refused(14);
         }
-        let pc = time::next_pc(self.current.pc, ended);
-        let after = time_after(self.timestamp, settings.time_step, ended);
-        let counter = sum(self.monotonic_cycle_counter, 1);
-        let next = self.finished(after, counter).moved(pc);
+        let pc = time::next_pc(self.current.pc, self.depth == 0);
+        let next = self.finish(settings).moved(pc);
         Executed {
             state: next,
             answer: ExecuteAnswer::Done {

@@ -36,36 +36,20 @@ impl State {
         let kept = self.kept;
         let instruction = kept.instruction;
         let depth = self.depth;
-        let ended = depth == 0;
-        let late = time::is_late(
-            self.timestamp,
-            settings.time_step,
-            self.monotonic_cycle_counter,
-            ended,
-        );
-        let n = call_refusal(depth == settings.depth_limit, late);
+        let n = call_refusal(depth == settings.depth_limit, self.is_late(settings));
         if n != 0 {
-            return Executed {
-                state: self,
-                answer: ExecuteAnswer::Refused(n),
-            };
+            return self.refused(n);
         }
         let f = self.current;
         let wanted = near_call::wanted_ergs(want, settings.near_call_multiplier);
         let passed = near_call::passed_ergs(wanted, f.ergs_remaining);
-        let pc = time::next_pc(f.pc, ended);
+        let pc = time::next_pc(f.pc, depth == 0);
         let caller = near_call::caller_frame(f, decode::less(f.ergs_remaining, passed), pc);
         frame::save_frame(store, depth, caller);
         let opened = near_call::opened_frame(caller, passed, instruction.imm_0, instruction.imm_1);
-        let after = helpers::time_after(self.timestamp, settings.time_step, ended);
-        let counter = helpers::sum(self.monotonic_cycle_counter, 1);
         let reverts = self.pubdata_revert_counter;
-        let next = self.finished(after, counter).switched(
-            opened,
-            helpers::sum(depth, 1),
-            helpers::no_flags(),
-            reverts,
-        );
+        let base = self.finish(settings);
+        let next = base.switched(opened, helpers::sum(depth, 1), helpers::no_flags(), reverts);
         Executed {
             state: next,
             answer: ExecuteAnswer::Done {

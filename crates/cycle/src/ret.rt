@@ -13,7 +13,6 @@ use rules::Flags;
 use rules::Settings;
 use rules::decode;
 use rules::ret;
-use rules::time;
 
 fn panic_flags(panic: bool) -> Flags
     ensures { λ r. ⌜ r ≡ panicFlags panic ⌝ }
@@ -46,58 +45,20 @@ impl State {
         let kept = self.kept;
         let instruction = kept.instruction;
         let f = self.current;
-        let ok = instruction.return_kind == 0;
-        let ended = self.depth == 0;
         let closed_cost = f.total_pubdata_spent;
-        let caller_cost = caller.total_pubdata_spent;
         let reverts = self.pubdata_revert_counter;
-        let pubdata = ret::pubdata_after(ok, caller_cost, closed_cost);
-        let counter = ret::counter_after(ok, reverts, closed_cost);
-        let past = ret::ergs_past(caller.ergs_remaining, f.ergs_remaining);
-        let late = time::is_late(
-            self.timestamp,
-            settings.time_step,
-            self.monotonic_cycle_counter,
-            ended,
-        );
-        let n = ret::close_refusal(
-            ret::is_outside(pubdata),
-            ret::is_bad_counter(counter),
-            past,
-            ret::is_shrunk(caller, f),
-            late,
-        );
+        let ok = instruction.return_kind == 0;
+        let n = ret::close_refusal(ok, caller, f, reverts, self.is_late(settings));
         if n != 0 {
-            return Executed {
-                state: self,
-                answer: ExecuteAnswer::Refused(n),
-            };
+            return self.refused(n);
         }
         let ergs = helpers::sum(caller.ergs_remaining, f.ergs_remaining);
-        let pc = ret::return_pc(
-            ok,
-            instruction.to_label,
-            instruction.imm_0,
-            f.exception_handler_location,
-            caller.pc,
-        );
-        let resumed = ret::resumed_frame(
-            caller,
-            f.heap_bound,
-            f.aux_heap_bound,
-            ret::cost_of(pubdata),
-            ergs,
-            pc,
-        );
-        let after = helpers::time_after(self.timestamp, settings.time_step, ended);
-        let cycles = helpers::sum(self.monotonic_cycle_counter, 1);
+        let resumed = ret::resumed_frame(instruction, caller, f, ergs);
+        let counter = ret::cost_of(ret::counter_after(ok, reverts, closed_cost));
         let flags = panic_flags(instruction.return_kind == 2);
-        let next = self.finished(after, cycles).switched(
-            resumed,
-            decode::less(self.depth, 1),
-            flags,
-            ret::cost_of(counter),
-        );
+        let depth = decode::less(self.depth, 1);
+        let next = self.finish(settings)
+            .switched(resumed, depth, flags, counter);
         Executed {
             state: next,
             answer: ExecuteAnswer::Done {
@@ -113,22 +74,13 @@ impl State {
         let depth = self.depth;
         let n = return_refusal(self.current.is_local_frame, depth);
         if n != 0 {
-            return Executed {
-                state: self,
-                answer: ExecuteAnswer::Refused(n),
-            };
+            return self.refused(n);
         }
         let row = frame::read_frame(store, decode::less(depth, 1));
         match row {
             ReadAnswer::Good(caller) => self.close(settings, caller),
-            ReadAnswer::Missing => Executed {
-                state: self,
-                answer: ExecuteAnswer::Refused(8),
-            },
-            ReadAnswer::NotGood => Executed {
-                state: self,
-                answer: ExecuteAnswer::Refused(8),
-            },
+            ReadAnswer::Missing => self.refused(8),
+            ReadAnswer::NotGood => self.refused(8),
         }
     }
 }

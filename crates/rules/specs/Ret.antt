@@ -3,12 +3,13 @@
 use Prim.Native.Nat.{ℕ, _+_, _^_}
 use mathlib.Core.Bool.{Bool, true, false, cond, _||_}
 use mathlib.Core.List.{[], _∷_}
-use lib.Dec.{leb, ltb}
+use lib.Dec.{leb, ltb, eqb}
 use lib.IntN.{ℤ, pos, negsuc}
 use Rattle.signed.specs.declared.Checked.{Checked}
 use Rattle.signed.specs.Signed.{sumOf, differenceOf}
 use Rattle.frame.specs.declared.Frame.{Frame}
 use Rattle.frame.specs.declared.PubdataCost.{PubdataCost}
+use Rattle.rules.specs.declared.Record.{Record}
 use Rattle.frame.specs.Refusal.{firstOf, _refuses_}
 
 -- the caller's pubdata afterwards, and the revert counter
@@ -35,10 +36,6 @@ costOf Checked.Outside = record { 0 = pos 0 }
 abbrev pub returnPc : Bool → Bool → ℕ → ℕ → ℕ → ℕ
 returnPc ok label target handler saved = cond label target (cond ok saved handler)
 
-abbrev pub closeRefusal : Bool → Bool → Bool → Bool → Bool → ℕ
-closeRefusal pubdata counter ergs shrunk late =
-    firstOf ((pubdata refuses 10) ∷ (counter refuses 11) ∷ (ergs refuses 12) ∷ (shrunk refuses 13) ∷ (late refuses 14) ∷ [])
-
 -- "ergs sum above 4,294,967,295", and "a heap bound below the caller's"
 abbrev pub ergsPast : ℕ → ℕ → Bool
 ergsPast caller closed = leb (2 ^ 32) (caller + closed)
@@ -46,9 +43,19 @@ ergsPast caller closed = leb (2 ^ 32) (caller + closed)
 abbrev pub isShrunk : Frame → Frame → Bool
 isShrunk caller closed = ltb (closed .«heap_bound») (caller .«heap_bound») || ltb (closed .«aux_heap_bound») (caller .«aux_heap_bound»)
 
+abbrev pub closeRefusal : Bool → Frame → Frame → PubdataCost → Bool → ℕ
+closeRefusal ok caller closed reverts late =
+    firstOf
+    ((isOutside (pubdataAfter ok (caller .«total_pubdata_spent» .0) (closed .«total_pubdata_spent» .0)) refuses 10)
+    ∷ (isBadCounter (counterAfter ok (reverts .0) (closed .«total_pubdata_spent» .0)) refuses 11)
+    ∷ (ergsPast (caller .«ergs_remaining») (closed .«ergs_remaining») refuses 12)
+    ∷ (isShrunk caller closed refuses 13)
+    ∷ (late refuses 14)
+    ∷ [])
+
 -- the caller, which goes on with the closed frame's heap bounds
-unfoldable pub resumedOf : Frame → ℕ → ℕ → PubdataCost → ℕ → ℕ → Frame
-resumedOf f heap aux pubdata ergs pc = record {
+unfoldable pub resumedWith : Frame → Frame → PubdataCost → ℕ → ℕ → Frame
+resumedWith f closed pubdata ergs pc = record {
   «context_u128_value» = f .«context_u128_value»;
   «this_address» = f .«this_address»;
   «msg_sender» = f .«msg_sender»;
@@ -64,8 +71,16 @@ resumedOf f heap aux pubdata ergs pc = record {
   «code_shard_id» = f .«code_shard_id»;
   «is_static» = f .«is_static»;
   «is_local_frame» = f .«is_local_frame»;
-  «heap_bound» = heap;
-  «aux_heap_bound» = aux;
+  «heap_bound» = closed .«heap_bound»;
+  «aux_heap_bound» = closed .«aux_heap_bound»;
   «total_pubdata_spent» = pubdata;
   stipend = f .stipend;
 }
+
+-- the caller as it goes on with so many ergs after the return r
+unfoldable pub resumedOf : Record → Frame → Frame → ℕ → Frame
+resumedOf r caller closed ergs =
+    resumedWith caller closed
+    (costOf (pubdataAfter (eqb (r .«return_kind») 0) (caller .«total_pubdata_spent» .0) (closed .«total_pubdata_spent» .0)))
+    ergs
+    (returnPc (eqb (r .«return_kind») 0) (r .«to_label») (r .«imm_0») (closed .«exception_handler_location») (caller .pc))

@@ -1,6 +1,9 @@
 // The sums of a local return.
 ghost use mathlib.Core.Path.{_≡_};
-ghost use Rattle.rules.specs.Ret.{pubdataAfter, counterAfter, isOutside, isBadCounter, costOf, returnPc, closeRefusal, ergsPast, isShrunk, resumedOf};
+ghost use mathlib.Core.List.{[], _∷_};
+ghost use Rattle.frame.specs.Refusal.{firstOf, _refuses_};
+ghost use Rattle.rules.specs.Ret.{pubdataAfter, counterAfter, isOutside, isBadCounter, costOf, returnPc, ergsPast, isShrunk, closeRefusal, resumedWith, resumedOf};
+use crate::Record;
 use frame::Frame;
 use frame::PubdataCost;
 use signed::Checked;
@@ -69,9 +72,9 @@ pub fn return_pc(ok: bool, label: bool, target: u16, handler: u16, saved: u16) -
     }
 }
 
-// Refusals 10 to 14, by what holds.
-pub fn close_refusal(pubdata: bool, counter: bool, ergs: bool, shrunk: bool, late: bool) -> u32
-    ensures { λ r. ⌜ r ≡ closeRefusal pubdata counter ergs shrunk late ⌝ }
+// The first of refusals 10 to 14 that holds.
+fn first_of(pubdata: bool, counter: bool, ergs: bool, shrunk: bool, late: bool) -> u32
+    ensures { λ r. ⌜ r ≡ firstOf ((pubdata refuses 10) ∷ (counter refuses 11) ∷ (ergs refuses 12) ∷ (shrunk refuses 13) ∷ (late refuses 14) ∷ []) ⌝ }
 {
     if pubdata {
         10
@@ -100,20 +103,51 @@ pub fn is_shrunk(caller: Frame, closed: Frame) -> bool
     (closed.heap_bound < caller.heap_bound) | (closed.aux_heap_bound < caller.aux_heap_bound)
 }
 
-pub fn resumed_frame(
-    mut f: Frame,
-    heap: u32,
-    aux: u32,
-    pubdata: PubdataCost,
-    ergs: u32,
-    pc: u16,
-) -> Frame
-    ensures { λ r. ⌜ r ≡ resumedOf f heap aux pubdata ergs pc ⌝ }
+// Refusals 10 to 14.
+pub fn close_refusal(
+    ok: bool,
+    caller: Frame,
+    closed: Frame,
+    reverts: PubdataCost,
+    late: bool,
+) -> u32
+    ensures { λ r. ⌜ r ≡ closeRefusal ok caller closed reverts late ⌝ }
 {
+    let caller_cost = caller.total_pubdata_spent;
+    let closed_cost = closed.total_pubdata_spent;
+    let outside = is_outside(pubdata_after(ok, caller_cost, closed_cost));
+    let bad = is_bad_counter(counter_after(ok, reverts, closed_cost));
+    let past = ergs_past(caller.ergs_remaining, closed.ergs_remaining);
+    first_of(outside, bad, past, is_shrunk(caller, closed), late)
+}
+
+fn resumed(mut f: Frame, closed: Frame, pubdata: PubdataCost, ergs: u32, pc: u16) -> Frame
+    ensures { λ r. ⌜ r ≡ resumedWith f closed pubdata ergs pc ⌝ }
+{
+    let heap = closed.heap_bound;
+    let aux = closed.aux_heap_bound;
     f.heap_bound = heap;
     f.aux_heap_bound = aux;
     f.total_pubdata_spent = pubdata;
     f.ergs_remaining = ergs;
     f.pc = pc;
     f
+}
+
+// The caller as it goes on with so many ergs.
+pub fn resumed_frame(r: Record, caller: Frame, closed: Frame, ergs: u32) -> Frame
+    ensures { λ f. ⌜ f ≡ resumedOf r caller closed ergs ⌝ }
+{
+    let ok = r.return_kind == 0;
+    let caller_cost = caller.total_pubdata_spent;
+    let closed_cost = closed.total_pubdata_spent;
+    let cost = cost_of(pubdata_after(ok, caller_cost, closed_cost));
+    let pc = return_pc(
+        ok,
+        r.to_label,
+        r.imm_0,
+        closed.exception_handler_location,
+        caller.pc,
+    );
+    resumed(caller, closed, cost, ergs, pc)
 }

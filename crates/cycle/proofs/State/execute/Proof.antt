@@ -21,17 +21,21 @@ pointer-refused-requires c κs = search needs
 execute-refusal-requires : tie.Need-execute-refusal-requires
 execute-refusal-requires c κs = search needs
 
+refused-requires : tie.Need-refused-requires
+refused-requires c κs = search needs
+
 returns : tie.Need-returns
 returns c =
     let p1 = c .before in
-    let p3 = p1 .before .before in
-    let p4 = p3 .before in
+    let p2 = p1 .before in
+    let p4 = p2 .before .before in
     let p5 = p4 .before in
     let p6 = p5 .before in
-    let p9 = p6 .before .before .before in
-    let p16 = p9 .before .before .before .before .before .before .before in
-    let a = p16 .args in
-    laws.refused (a .settings) (a .word) (a .pointer) (a .self) (a .store .now) _ (p9 .sources .ensures) _ (p6 .bad-sizes .ensures) _ (p5 .good-record .ensures) _ (p4 .is-kernel-mode .ensures) _ (p3 .pointer-refused .ensures) _ (p1 .execute-refusal .ensures) (c .if1 .taken)
+    let p7 = p6 .before in
+    let p10 = p7 .before .before .before in
+    let p17 = p10 .before .before .before .before .before .before .before in
+    let a = p17 .args in
+    laws.refused (a .settings) (a .word) (a .pointer) (a .self) (a .store .now) _ (p10 .sources .ensures) _ (p7 .bad-sizes .ensures) _ (p6 .good-record .ensures) _ (p5 .is-kernel-mode .ensures) _ (p4 .pointer-refused .ensures) _ (p2 .execute-refusal .ensures) (p1 .if1 .taken) _ (c .refused .ensures)
 
 nop-requires : tie.Need-nop-requires
 nop-requires c κs = search needs
@@ -95,7 +99,7 @@ returns-4 : tie.Need-returns-4
 returns-4 c =
     let p1 = c .before in
     let p2 = p1 .before in
-    let p5 = p1 .before .before .before .before in
+    let p5 = p2 .before .before .before in
     let p6 = p5 .before in
     let p8 = p6 .before .before in
     let p9 = p8 .before in
@@ -113,7 +117,7 @@ returns-5 : tie.Need-returns-5
 returns-5 c =
     let p2 = c .before .before in
     let p3 = p2 .before in
-    let p6 = p2 .before .before .before .before in
+    let p6 = p3 .before .before .before in
     let p7 = p6 .before in
     let p9 = p7 .before .before in
     let p10 = p9 .before in
@@ -134,6 +138,7 @@ execute-spec =
     is-kernel-mode-requires
     pointer-refused-requires
     execute-refusal-requires
+    refused-requires
     returns
     nop-requires
     low-u32-requires

@@ -9,13 +9,17 @@ is-late-requires c κs = search needs
 call-refusal-requires : tie.Need-call-refusal-requires
 call-refusal-requires c κs = search needs
 
+refused-requires : tie.Need-refused-requires
+refused-requires c κs = search needs
+
 returns : tie.Need-returns
 returns c =
     let p1 = c .before in
-    let p3 = p1 .before .before in
-    let p7 = p3 .before .before .before .before in
-    let a = p7 .args in
-    laws.refused (a .settings) (a .want) (a .self) (a .store .now) _ (p3 .is-late .ensures) _ (p1 .call-refusal .ensures) (c .if1 .taken)
+    let p2 = p1 .before in
+    let p3 = p2 .before in
+    let p8 = p3 .before .before .before .before .before in
+    let a = p8 .args in
+    laws.refused (a .settings) (a .want) (a .self) (a .store .now) _ (p3 .is-late .ensures) _ (p2 .call-refusal .ensures) (p1 .if1 .taken) _ (c .refused .ensures)
 
 wanted-ergs-requires : tie.Need-wanted-ergs-requires
 wanted-ergs-requires c κs = search needs
@@ -38,35 +42,23 @@ save-frame-requires c κs = search needs
 opened-frame-requires : tie.Need-opened-frame-requires
 opened-frame-requires c κs = search needs
 
-time-after-requires : tie.Need-time-after-requires
-time-after-requires c κs =
-    let p11 = c .before .before .before .before .before .before .before .before .before .before .before in
-    let p12 = p11 .before in
-    let p14 = p12 .before .before in
-    let p18 = p14 .before .before .before .before in
-    let a = p18 .args in
-    laws.timely (a .settings) (a .want) (a .self) (a .store .now) _ (p14 .is-late .ensures) _ (p12 .call-refusal .ensures) (p11 .if1 .left) .time
+finish-requires : tie.Need-finish-requires
+finish-requires c κs =
+    let p12 = c .before .before .before .before .before .before .before .before .before .before .before .before in
+    let p13 = p12 .before in
+    let p14 = p13 .before in
+    let p19 = p14 .before .before .before .before .before in
+    let a = p19 .args in
+    laws.timely (a .settings) (a .want) (a .self) (a .store .now) _ (p14 .is-late .ensures) _ (p13 .call-refusal .ensures) (p12 .if1 .left)
 
 sum-requires : tie.Need-sum-requires
 sum-requires c κs =
-    let p12 = c .before .before .before .before .before .before .before .before .before .before .before .before in
-    let p13 = p12 .before in
-    let p15 = p13 .before .before in
-    let p19 = p15 .before .before .before .before in
-    let a = p19 .args in
-    laws.timely (a .settings) (a .want) (a .self) (a .store .now) _ (p15 .is-late .ensures) _ (p13 .call-refusal .ensures) (p12 .if1 .left) .counter
-
-finished-requires : tie.Need-finished-requires
-finished-requires c κs = search needs
-
-sum-requires-2 : tie.Need-sum-requires-2
-sum-requires-2 c κs =
-    let p15 = c .before .before .before .before .before .before .before .before .before .before .before .before .before .before .before in
-    let p16 = p15 .before in
-    let p18 = p16 .before .before in
-    let p22 = p18 .before .before .before .before in
-    let a = p22 .args in
-    laws.deeper (a .settings) (a .want) (a .self) (a .store .now) _ (p18 .is-late .ensures) _ (p16 .call-refusal .ensures) (p15 .if1 .left) (p22 .pre) (search needs)
+    let p13 = c .before .before .before .before .before .before .before .before .before .before .before .before .before in
+    let p14 = p13 .before in
+    let p15 = p14 .before in
+    let p20 = p15 .before .before .before .before .before in
+    let a = p20 .args in
+    laws.deeper (a .settings) (a .want) (a .self) (a .store .now) _ (p15 .is-late .ensures) _ (p14 .call-refusal .ensures) (p13 .if1 .left) (p20 .pre) (search needs)
 
 no-flags-requires : tie.Need-no-flags-requires
 no-flags-requires c κs = search needs
@@ -75,7 +67,7 @@ switched-requires : tie.Need-switched-requires
 switched-requires c κs = search needs
 
 same-length : tie.Need-same-length
-same-length c = c .before .before .before .before .before .before .before .before .before .before .save-frame .kept .0
+same-length c = c .before .before .before .before .before .before .before .before .save-frame .kept .0
 
 returns-2 : tie.Need-returns-2
 returns-2 c =
@@ -83,20 +75,18 @@ returns-2 c =
     let p2 = p1 .before in
     let p3 = p2 .before in
     let p5 = p3 .before .before in
-    let p6 = p5 .before in
-    let p7 = p6 .before in
-    let p10 = p7 .before .before .before in
-    let p12 = p7 .before .before .before .before .before in
+    let p8 = p5 .before .before .before in
+    let p10 = p8 .before .before in
+    let p11 = p10 .before in
+    let p12 = p11 .before in
     let p13 = p12 .before in
     let p14 = p13 .before in
-    let p15 = p14 .before in
-    let p16 = p15 .before in
-    let p18 = p16 .before .before in
-    let p19 = p18 .before in
-    let p21 = p19 .before .before in
-    let p25 = p21 .before .before .before .before in
-    let a = p25 .args in
-    laws.done (a .settings) (a .want) (a .self) (a .store .now) _ (p21 .is-late .ensures) _ (p19 .call-refusal .ensures) (p18 .if1 .left) (p25 .pre) _ (p16 .wanted-ergs .ensures) _ (p15 .passed-ergs .ensures) _ (p14 .next-pc .ensures) _ (p13 .less .ensures) _ (p12 .caller-frame .ensures) _ (p10 .save-frame .ensures .1) _ (p7 .opened-frame .ensures) _ (p6 .time-after .ensures) _ (p5 .sum .ensures) _ (p3 .finished .ensures) _ (p2 .sum2 .ensures) _ (p1 .no-flags .ensures) _ (c .switched .ensures)
+    let p16 = p14 .before .before in
+    let p17 = p16 .before in
+    let p18 = p17 .before in
+    let p23 = p18 .before .before .before .before .before in
+    let a = p23 .args in
+    laws.done (a .settings) (a .want) (a .self) (a .store .now) _ (p18 .is-late .ensures) _ (p17 .call-refusal .ensures) (p16 .if1 .left) _ (p14 .wanted-ergs .ensures) _ (p13 .passed-ergs .ensures) _ (p12 .next-pc .ensures) _ (p11 .less .ensures) _ (p10 .caller-frame .ensures) _ (p8 .save-frame .ensures .2) _ (p5 .opened-frame .ensures) _ (p3 .finish .ensures) _ (p2 .sum .ensures) _ (p1 .no-flags .ensures) _ (c .switched .ensures)
 
 pub near-call-spec : {M : Type 1} → statement M
 near-call-spec =
@@ -104,6 +94,7 @@ near-call-spec =
     (tie.spec
     is-late-requires
     call-refusal-requires
+    refused-requires
     returns
     wanted-ergs-requires
     passed-ergs-requires
@@ -112,10 +103,8 @@ near-call-spec =
     caller-frame-requires
     save-frame-requires
     opened-frame-requires
-    time-after-requires
+    finish-requires
     sum-requires
-    finished-requires
-    sum-requires-2
     no-flags-requires
     switched-requires
     same-length

@@ -6,12 +6,16 @@ use Rattle.cycle.proofs.State.ret.Tie as tie
 return-refusal-requires : tie.Need-return-refusal-requires
 return-refusal-requires c κs = search needs
 
+refused-requires : tie.Need-refused-requires
+refused-requires c κs = search needs
+
 returns : tie.Need-returns
 returns c =
     let p1 = c .before in
-    let p3 = p1 .before .before in
-    let a = p3 .args in
-    laws.refused (a .settings) (a .self) (a .store .now) _ (p1 .return-refusal .ensures) (c .if1 .taken)
+    let p2 = p1 .before in
+    let p4 = p2 .before .before in
+    let a = p4 .args in
+    laws.refused (a .settings) (a .self) (a .store .now) _ (p2 .return-refusal .ensures) (p1 .if1 .taken) _ (c .refused .ensures)
 
 less-requires : tie.Need-less-requires
 less-requires c κs = search needs
@@ -28,8 +32,14 @@ close-requires c κs = search needs
 enum-told : tie.Need-enum-told
 enum-told c = search needs
 
+refused-requires-2 : tie.Need-refused-requires-2
+refused-requires-2 c κs = search needs
+
 enum-told-2 : tie.Need-enum-told-2
 enum-told-2 c = search needs
+
+refused-requires-3 : tie.Need-refused-requires-3
+refused-requires-3 c κs = search needs
 
 returns-2 : tie.Need-returns-2
 returns-2 c =
@@ -40,40 +50,45 @@ returns-2 c =
     let p7 = p6 .before in
     let p9 = p7 .before .before in
     let a = p9 .args in
-    laws.good (a .settings) (a .self) (a .store .now) _ (p7 .return-refusal .ensures) (p6 .if1 .left) _ (p5 .less .ensures) _ (p4 .read-frame .ensures) _ (p2 .row .given .1) _ (c .close .ensures)
+    laws.good (a .settings) (a .self) (a .store .now) _ (p7 .return-refusal .ensures) (p6 .if1 .left) _ (p5 .less .ensures) _ (p4 .read-frame .ensures .0) _ (p2 .row .given .1) _ (c .close .ensures)
 
 returns-3 : tie.Need-returns-3
 returns-3 c =
-    let p2 = c .before .before in
-    let p3 = p2 .before in
+    let p1 = c .before in
+    let p3 = p1 .before .before in
     let p4 = p3 .before in
     let p5 = p4 .before in
-    let p7 = p5 .before .before in
-    let a = p7 .args in
-    laws.missing (a .settings) (a .self) (a .store .now) _ (p5 .return-refusal .ensures) (p4 .if1 .left) _ (p3 .less .ensures) _ (p2 .read-frame .ensures) (c .enum-told .given .1)
+    let p6 = p5 .before in
+    let p8 = p6 .before .before in
+    let a = p8 .args in
+    laws.missing (a .settings) (a .self) (a .store .now) _ (p6 .return-refusal .ensures) (p5 .if1 .left) _ (p4 .less .ensures) _ (p3 .read-frame .ensures .0) (p1 .enum-told .given .1) _ (c .refused2 .ensures)
 
 returns-4 : tie.Need-returns-4
 returns-4 c =
-    let p2 = c .before .before in
-    let p3 = p2 .before in
+    let p1 = c .before in
+    let p3 = p1 .before .before in
     let p4 = p3 .before in
     let p5 = p4 .before in
-    let p7 = p5 .before .before in
-    let a = p7 .args in
-    laws.not-good (a .settings) (a .self) (a .store .now) _ (p5 .return-refusal .ensures) (p4 .if1 .left) _ (p3 .less .ensures) _ (p2 .read-frame .ensures) (c .enum-told2 .given .1)
+    let p6 = p5 .before in
+    let p8 = p6 .before .before in
+    let a = p8 .args in
+    laws.not-good (a .settings) (a .self) (a .store .now) _ (p6 .return-refusal .ensures) (p5 .if1 .left) _ (p4 .less .ensures) _ (p3 .read-frame .ensures .0) (p1 .enum-told2 .given .1) _ (c .refused3 .ensures)
 
 pub ret-spec : {M : Type 1} → statement M
 ret-spec =
     tie.close
     (tie.spec
     return-refusal-requires
+    refused-requires
     returns
     less-requires
     read-frame-requires
     enum-known-row
     close-requires
     enum-told
+    refused-requires-2
     enum-told-2
+    refused-requires-3
     returns-2
     returns-3
     returns-4)
