@@ -2,6 +2,7 @@
 use mathlib.Core.Path.{refl}
 use Rattle.frame.specs.Fields.{withErgs, withSp, withPc}
 use Rattle.frame.specs.Kernel.{kernelMode}
+use Rattle.frame.specs.Store.{savedStore}
 use Rattle.u256.specs.U256.{sumOf, differenceOf, isZero, lowOf}
 use Rattle.rules.specs.Record.{badRecords}
 use Rattle.rules.specs.Charge.{errorFlags}
@@ -20,6 +21,6 @@ use Rattle.cycle.specs.Execute.{executeDone, executeOf, executeStore}
 use Rattle.calls.specs.Edges.{edges, AllHold}
 
 pub edges-hold : AllHold edges
-unfolding withErgs withSp withPc kernelMode sumOf differenceOf isZero lowOf badRecords errorFlags sourceAt destinationAt placesOf sourcesOf callerOf openedOf flagsAfter finishedState movedState writtenState switchedState decodedState decodeDone decodeOf addressedState operandsDone operandsOf nopDone nopOf nearCallDone nearCallOf nearCallStore arithmeticDone arithmeticOf returnOf executeDone executeOf executeStore
+unfolding withErgs withSp withPc kernelMode savedStore sumOf differenceOf isZero lowOf badRecords errorFlags sourceAt destinationAt placesOf sourcesOf callerOf openedOf flagsAfter finishedState movedState writtenState switchedState decodedState decodeDone decodeOf addressedState operandsDone operandsOf nopDone nopOf nearCallDone nearCallOf nearCallStore arithmeticDone arithmeticOf returnOf executeDone executeOf executeStore
 edges-hold =
     (refl, (refl, (refl, (refl, (refl, (refl, (refl, (refl, (refl, (refl, (refl, (refl, (refl, (refl, tt))))))))))))))

@@ -12,7 +12,7 @@ use lib.ListN.{take, drop, replicate}
 use Rattle.u256.specs.U256.{lowOf}
 use Rattle.frame.specs.Fields.{withErgs, withSp, withPc}
 use Rattle.frame.specs.Kernel.{kernelMode}
-use Rattle.frame.specs.Store.{readOf}
+use Rattle.frame.specs.Store.{savedStore, readOf}
 use Rattle.registers.specs.Registers.{emptyWord}
 use Rattle.signed.specs.Signed.{checkedOf, wordOf, signedOf}
 use Rattle.u256.specs.U256.{sumOf, differenceOf, isZero}
@@ -23,7 +23,7 @@ use Rattle.rules.specs.Charge.{errorFlags}
 use Rattle.rules.specs.Address.{sourceAt, destinationAt, placesOf}
 use Rattle.rules.specs.Sources.{sourcesOf}
 use Rattle.rules.specs.NearCall.{callerOf, openedOf}
-use Rattle.rules.specs.Ret.{resumedOf}
+use Rattle.rules.specs.Ret.{resumedWith, resumedOf}
 use Rattle.rules.specs.Arithmetic.{flagsAfter}
 use Rattle.cycle.specs.declared.State.{State}
 use Rattle.cycle.specs.Effects.{finishedState, movedState, writtenState, switchedState}
@@ -74,7 +74,7 @@ joined (l ∷ ls) = l ++ joined ls
 -- charge and ergs held of the six lines: "add 6 .. 994", "call 25 .. 300", "add 6 .. 294", "ok 5 .. 958", "call 25 .. 933", "revert 5 .. 928"
 pub figures : joined (map figure (finishedOf core (trace core listing start (emptyStore 4))))
     ≡ 6 ∷ 994 ∷ 25 ∷ 300 ∷ 6 ∷ 294 ∷ 5 ∷ 958 ∷ 25 ∷ 933 ∷ 5 ∷ 928 ∷ []
-unfolding finishedOf trace chargeOf withErgs withSp withPc kernelMode readOf lowOf checkedOf wordOf signedOf sumOf differenceOf isZero codeBits badRecords errorFlags sourceAt destinationAt placesOf sourcesOf callerOf openedOf resumedOf flagsAfter finishedState movedState writtenState switchedState fetchedState fetchDone fetchOf decodedState decodeDone decodeOf addressedState operandsDone operandsOf nopDone nopOf nearCallDone nearCallOf nearCallStore arithmeticDone arithmeticOf closeDone closeOf returnOf executeDone executeOf executeStore
+unfolding finishedOf trace chargeOf withErgs withSp withPc kernelMode readOf lowOf checkedOf wordOf signedOf sumOf differenceOf isZero codeBits badRecords errorFlags sourceAt destinationAt placesOf sourcesOf callerOf openedOf resumedWith resumedOf savedStore flagsAfter finishedState movedState writtenState switchedState fetchedState fetchDone fetchOf decodedState decodeDone decodeOf addressedState operandsDone operandsOf nopDone nopOf nearCallDone nearCallOf nearCallStore arithmeticDone arithmeticOf closeDone closeOf returnOf executeDone executeOf executeStore
 figures = refl
 
 -- ---- the first near call, from its own cycle to the one that closes its frame: the premises of the claim hold, and so does what it says
@@ -115,15 +115,15 @@ abbrev pub calling : List (Cycle core)
 calling = span core call (add ∷ []) close
 
 in-turn : InTurn core listing start (emptyStore 4) calling
-unfolding eventsOf finishedOf trace chargeOf withErgs withSp withPc kernelMode readOf lowOf checkedOf wordOf signedOf sumOf differenceOf isZero codeBits badRecords errorFlags sourceAt destinationAt placesOf sourcesOf callerOf openedOf resumedOf flagsAfter finishedState movedState writtenState switchedState fetchedState fetchDone fetchOf decodedState decodeDone decodeOf addressedState operandsDone operandsOf nopDone nopOf nearCallDone nearCallOf nearCallStore arithmeticDone arithmeticOf closeDone closeOf returnOf executeDone executeOf executeStore
+unfolding eventsOf finishedOf trace chargeOf withErgs withSp withPc kernelMode readOf lowOf checkedOf wordOf signedOf sumOf differenceOf isZero codeBits badRecords errorFlags sourceAt destinationAt placesOf sourcesOf callerOf openedOf resumedWith resumedOf savedStore flagsAfter finishedState movedState writtenState switchedState fetchedState fetchDone fetchOf decodedState decodeDone decodeOf addressedState operandsDone operandsOf nopDone nopOf nearCallDone nearCallOf nearCallStore arithmeticDone arithmeticOf closeDone closeOf returnOf executeDone executeOf executeStore
 in-turn = record { earlier = take 4 events; later = drop 16 events; found = refl }
 
 opens-frame : operation core call ≡ nearCall
-unfolding operation finishedOf trace chargeOf withErgs withSp withPc kernelMode readOf lowOf checkedOf wordOf signedOf sumOf differenceOf isZero codeBits badRecords errorFlags sourceAt destinationAt placesOf sourcesOf callerOf openedOf resumedOf flagsAfter finishedState movedState writtenState switchedState fetchedState fetchDone fetchOf decodedState decodeDone decodeOf addressedState operandsDone operandsOf nopDone nopOf nearCallDone nearCallOf nearCallStore arithmeticDone arithmeticOf closeDone closeOf returnOf executeDone executeOf executeStore
+unfolding operation finishedOf trace chargeOf withErgs withSp withPc kernelMode readOf lowOf checkedOf wordOf signedOf sumOf differenceOf isZero codeBits badRecords errorFlags sourceAt destinationAt placesOf sourcesOf callerOf openedOf resumedWith resumedOf savedStore flagsAfter finishedState movedState writtenState switchedState fetchedState fetchDone fetchOf decodedState decodeDone decodeOf addressedState operandsDone operandsOf nopDone nopOf nearCallDone nearCallOf nearCallStore arithmeticDone arithmeticOf closeDone closeOf returnOf executeDone executeOf executeStore
 opens-frame = refl
 
 closes-last : ClosesWithLast core calling
-unfolding operation opened closed sum finishedOf trace chargeOf withErgs withSp withPc kernelMode readOf lowOf checkedOf wordOf signedOf sumOf differenceOf isZero codeBits badRecords errorFlags sourceAt destinationAt placesOf sourcesOf callerOf openedOf resumedOf flagsAfter finishedState movedState writtenState switchedState fetchedState fetchDone fetchOf decodedState decodeDone decodeOf addressedState operandsDone operandsOf nopDone nopOf nearCallDone nearCallOf nearCallStore arithmeticDone arithmeticOf closeDone closeOf returnOf executeDone executeOf executeStore
+unfolding operation opened closed sum finishedOf trace chargeOf withErgs withSp withPc kernelMode readOf lowOf checkedOf wordOf signedOf sumOf differenceOf isZero codeBits badRecords errorFlags sourceAt destinationAt placesOf sourcesOf callerOf openedOf resumedWith resumedOf savedStore flagsAfter finishedState movedState writtenState switchedState fetchedState fetchDone fetchOf decodedState decodeDone decodeOf addressedState operandsDone operandsOf nopDone nopOf nearCallDone nearCallOf nearCallStore arithmeticDone arithmeticOf closeDone closeOf returnOf executeDone executeOf executeStore
 closes-last = record { as-many = refl; not-before = before-last }
   where
     some : _≡_ {A = ℕ} 1 0 → ⊥
@@ -143,5 +143,5 @@ resumes = callers-resume core laws listing start (emptyStore 4) call (add ∷ []
 
 -- 994 before the call, 958 after the close, and 25 + 6 + 5 charged between
 pub resumed-figures : (core .ergs (before core call) ≡ 994) × (core .ergs (result core close .state) ≡ 958) × (charges core calling ≡ 36)
-unfolding charge charges sum finishedOf trace chargeOf withErgs withSp withPc kernelMode readOf lowOf checkedOf wordOf signedOf sumOf differenceOf isZero codeBits badRecords errorFlags sourceAt destinationAt placesOf sourcesOf callerOf openedOf resumedOf flagsAfter finishedState movedState writtenState switchedState fetchedState fetchDone fetchOf decodedState decodeDone decodeOf addressedState operandsDone operandsOf nopDone nopOf nearCallDone nearCallOf nearCallStore arithmeticDone arithmeticOf closeDone closeOf returnOf executeDone executeOf executeStore
+unfolding charge charges sum finishedOf trace chargeOf withErgs withSp withPc kernelMode readOf lowOf checkedOf wordOf signedOf sumOf differenceOf isZero codeBits badRecords errorFlags sourceAt destinationAt placesOf sourcesOf callerOf openedOf resumedWith resumedOf savedStore flagsAfter finishedState movedState writtenState switchedState fetchedState fetchDone fetchOf decodedState decodeDone decodeOf addressedState operandsDone operandsOf nopDone nopOf nearCallDone nearCallOf nearCallStore arithmeticDone arithmeticOf closeDone closeOf returnOf executeDone executeOf executeStore
 resumed-figures = (refl, refl, refl)

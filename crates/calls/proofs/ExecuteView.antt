@@ -17,13 +17,13 @@ use Rattle.frame.specs.Fields.{withPc}
 use Rattle.frame.specs.Kernel.{kernelMode}
 use Rattle.frame.specs.Refusal.{Check, firstOf, _refuses_}
 use Rattle.frame.specs.Row.{rowWidth, frameOf, goodRow}
-use Rattle.frame.specs.Store.{wholeRows, rowAt, storeWith, readOf}
-use Rattle.frame.proofs.StoreLaws.{with-row, with-below}
+use Rattle.frame.specs.Store.{wholeRows, rowAt, savedStore, readOf}
+use Rattle.frame.proofs.StoreLaws.{saved-row, saved-below}
 use Rattle.rules.specs.declared.Settings.{Settings}
 use Rattle.rules.specs.Record.{goodRecord}
 use Rattle.rules.specs.Sources.{pointerRefused}
 use Rattle.rules.specs.NearCall.{wantedErgs, passedErgs, callerOf, openedOf}
-use Rattle.rules.specs.Ret.{isOutside, isBadCounter, ergsPast, isShrunk, resumedOf}
+use Rattle.rules.specs.Ret.{pubdataAfter, counterAfter, isOutside, isBadCounter, ergsPast, isShrunk, resumedWith, resumedOf}
 use Rattle.rules.proofs.RefusalLaws.{clear}
 use Rattle.cycle.specs.declared.State.{State}
 use Rattle.cycle.specs.declared.Executed.{Executed}
@@ -33,7 +33,7 @@ use Rattle.cycle.specs.Effects.{finishedState, movedState, writtenState, switch
 use Rattle.cycle.specs.Operands.{recordOf}
 use Rattle.cycle.specs.Helpers.{lateIn, refusedWith, isStored, nopRefusal, nopDone, nopOf}
 use Rattle.cycle.specs.NearCall.{callRefusal, callRefusalIn, passedIn, callerIn, nearCallDone, nearCallOf, nearCallStore}
-use Rattle.cycle.specs.Ret.{pubdataIn, counterIn, returnRefusal, closeRefusalIn, closeDone, closeOf, returnTo, returnOf}
+use Rattle.cycle.specs.Ret.{isOk, returnRefusal, closeRefusalIn, closeDone, closeOf, returnTo, returnOf}
 use Rattle.cycle.specs.Arithmetic.{arithmeticRefusalIn, arithmeticDone, arithmeticOf}
 use Rattle.cycle.specs.Execute.{sourcesIn, executeRefusalIn, wantIn, executeDone, executeOf, executeStore}
 use Rattle.cycle.proofs.NearCallLaws.{room}
@@ -60,14 +60,12 @@ bit-back true = refl
 bit-back false = refl
 
 -- the frame that reading row i gives is that of its words
-read-good : (store : List ℕ) (i : ℕ) (f : Frame) → readOf store i ≡ ReadAnswer.Good f → f ≡ frameOf (rowAt store i)
+read-good : (store : List ℕ) (i : ℕ) (f : Frame) → readOf 16 store i ≡ ReadAnswer.Good f → f ≡ frameOf (rowAt store i)
 unfolding readOf
 read-good store i f = go (ltb i (wholeRows store)) (goodRow 16 (rowAt store i))
   where
     go : (a b : Bool)
-        → cond (eqb (cond (not a) 1 (cond (not b) 8 0)) 0) (ReadAnswer.Good (frameOf (rowAt store i)))
-        (cond (eqb (cond (not a) 1 (cond (not b) 8 0)) 1) ReadAnswer.Missing ReadAnswer.NotGood)
-        ≡ ReadAnswer.Good f
+        → cond a (cond b (ReadAnswer.Good (frameOf (rowAt store i))) ReadAnswer.NotGood) ReadAnswer.Missing ≡ ReadAnswer.Good f
         → f ≡ frameOf (rowAt store i)
     go true true e = cc
     go true false e = cc
@@ -127,12 +125,12 @@ module _ (x : ExecuteInput) (s : State) (store : List ℕ) (at : stageOf (s .sta
   unfolding outcome nearCallOf nearCallStore nearCallDone switchedState finishedState openedOf callerOf machines.rowAt machines.firstRows
   call-view e b =
       both Viewed (eqb (callRefusalIn settings s) 0) (nearCallDone settings want s) (refusedWith s (callRefusalIn settings s))
-      (storeWith store (s .depth) (callerIn settings want s)) store
+      (savedStore store (s .depth) (callerIn settings want s)) store
       (λ t.
       let c = clear checks tt (eqb-true (callRefusalIn settings s) 0 t) in
       let free : s .depth < wholeRows store =
       room (settings .«depth_limit») (s .depth) (length store) b (eqb-false (s .depth) (settings .«depth_limit») (c .0)) .0 in
-      let row = with-row store (s .depth) (callerIn settings want s) free in
+      let row = saved-row store (s .depth) (callerIn settings want s) free in
       done refl (
         record { stage-before = at; stage-after = refl },
         rw e
@@ -144,7 +142,7 @@ module _ (x : ExecuteInput) (s : State) (store : List ℕ) (at : stageOf (s .sta
                   ap (λ (l : List ℕ). frameOf l .«ergs_remaining» + passedIn settings want s) row
                   ∙ sub-add-cancel (passed-le (wantedErgs want (settings .«near_call_multiplier»)) (s .current .«ergs_remaining»));
               local-saved = ap (λ (l : List ℕ). frameOf l .«is_local_frame») row ∙ bit-back (s .current .«is_local_frame»);
-              below-same = with-below store (s .depth) (callerIn settings want s) free (s .depth) (omega arith);
+              below-same = saved-below store (s .depth) (callerIn settings want s) (s .depth) (omega arith);
             }),
       ))
       (λ f. checked checks tt (eqb-false (callRefusalIn settings s) 0 f))
@@ -153,8 +151,8 @@ module _ (x : ExecuteInput) (s : State) (store : List ℕ) (at : stageOf (s .sta
       checks = (eqb (s .depth) (settings .«depth_limit») refuses 9) ∷ (lateIn settings s refuses 14) ∷ []
 
   -- ---- return
-  close-view : operationOf op ≡ machines.ret → (s .depth ≡ 0 → ⊥) → (row : ReadAnswer) → readOf store (s .depth - 1) ≡ row → Viewed (returnTo settings s row) store
-  unfolding outcome closeOf closeDone switchedState finishedState resumedOf machines.rowAt
+  close-view : operationOf op ≡ machines.ret → (s .depth ≡ 0 → ⊥) → (row : ReadAnswer) → readOf 16 store (s .depth - 1) ≡ row → Viewed (returnTo settings s row) store
+  unfolding outcome closeOf closeDone switchedState finishedState resumedWith resumedOf machines.rowAt
   close-view e d (ReadAnswer.Good caller) q =
       by-number (λ r. Viewed r store) (closeRefusalIn settings caller s) (refusedWith s) (closeDone settings caller s)
       (λ z.
@@ -170,8 +168,8 @@ module _ (x : ExecuteInput) (s : State) (store : List ℕ) (at : stageOf (s .sta
             }),
       ))
       (checked
-      ((isOutside (pubdataIn s caller) refuses 10)
-      ∷ (isBadCounter (counterIn s) refuses 11)
+      ((isOutside (pubdataAfter (isOk s) (caller .«total_pubdata_spent» .0) (s .current .«total_pubdata_spent» .0)) refuses 10)
+      ∷ (isBadCounter (counterAfter (isOk s) (s .«pubdata_revert_counter» .0) (s .current .«total_pubdata_spent» .0)) refuses 11)
       ∷ (ergsPast (caller .«ergs_remaining») (s .current .«ergs_remaining») refuses 12)
       ∷ (isShrunk caller (s .current) refuses 13)
       ∷ (lateIn settings s refuses 14)
@@ -186,10 +184,10 @@ module _ (x : ExecuteInput) (s : State) (store : List ℕ) (at : stageOf (s .sta
   unfolding returnOf
   return-view e =
       by-number (λ r. Viewed r store) (returnRefusal (s .current .«is_local_frame») (s .depth)) (refusedWith s)
-      (returnTo settings s (readOf store (s .depth - 1)))
+      (returnTo settings s (readOf 16 store (s .depth - 1)))
       (λ z.
       let c = clear checks tt z in
-      close-view e (eqb-false (s .depth) 0 (c .1 .0)) (readOf store (s .depth - 1)) refl)
+      close-view e (eqb-false (s .depth) 0 (c .1 .0)) (readOf 16 store (s .depth - 1)) refl)
       (checked checks tt)
     where
       checks : List Check

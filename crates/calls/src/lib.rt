@@ -1,12 +1,17 @@
 // What is claimed of the cycle core as a whole, each claim in a contract, so that it is proved with every check.
 ghost use Rattle.lists.specs.Claims.{CallersResume, CyclesCover, FramesCounted};
 ghost use Rattle.calls.specs.Core.{core};
-ghost use Rattle.calls.specs.Answers.{EveryCallAnswers};
+ghost use Rattle.calls.specs.Answers.{EveryCallAnswers, EveryEntryAnswers};
 ghost use Rattle.calls.specs.Edges.{edges, AllHold};
 
 // Demand 1: each call of a stage finishes, or refuses with one of its numbers and changes nothing.
 pub fn every_call_answers()
     ensures { λ _. ⌜ EveryCallAnswers ⌝ }
+{}
+
+// Demand 1 for the tally: each entry is made, or refused with 15 and changes nothing.
+pub fn every_entry_answers()
+    ensures { λ _. ⌜ EveryEntryAnswers ⌝ }
 {}
 
 // Demand 3: whenever the frame of a near call closes, its caller holds what it had less the charges, no less than its share, and the frames below are as they were.
