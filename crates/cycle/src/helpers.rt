@@ -3,7 +3,7 @@ ghost use mathlib.Core.Path.{_≡_};
 ghost use mathlib.Core.Bool.{true, false};
 ghost use Prim.Native.Nat.{_+_, _^_, _<_};
 ghost use Rattle.rules.specs.Time.{timeAfter};
-ghost use Rattle.cycle.specs.Effects.{noFlags, finishedState, movedState, writtenState, switchedState};
+ghost use Rattle.cycle.specs.Effects.{noFlags, noRecord, finishedState, movedState, writtenState, switchedState};
 ghost use Rattle.cycle.specs.Helpers.{lateIn, finishedIn, refusedWith, isStored, writeOf, nopOf};
 use crate::Event;
 use crate::ExecuteAnswer;
@@ -42,6 +42,32 @@ pub(crate) fn no_flags() -> Flags
         overflow_or_less_than_flag: false,
         equality_flag: false,
         greater_than_flag: false,
+    }
+}
+
+pub(crate) fn no_record() -> Record
+    ensures { λ r. ⌜ r ≡ noRecord ⌝ }
+{
+    Record {
+        operation: 0,
+        return_kind: 0,
+        condition: 0,
+        source_kind: 0,
+        destination_kind: 0,
+        src0: 0,
+        src1: 0,
+        dst0: 0,
+        imm_0: 0,
+        imm_1: 0,
+        price: 0,
+        explicit_panic: false,
+        kernel_only: false,
+        allowed_when_static: false,
+        swap: false,
+        set_flags: false,
+        to_label: false,
+        src0_may_be_pointer: false,
+        src1_may_be_pointer: false,
     }
 }
 
@@ -85,31 +111,19 @@ impl State {
     pub(crate) fn finished(mut self, time: u32, counter: u32) -> State
         ensures { λ r. ⌜ r ≡ finishedState self time counter ⌝ }
     {
-        let instruction = Record {
-            operation: 0,
-            return_kind: 0,
-            condition: 0,
-            source_kind: 0,
-            destination_kind: 0,
-            src0: 0,
-            src1: 0,
-            dst0: 0,
-            imm_0: 0,
-            imm_1: 0,
-            price: 0,
-            explicit_panic: false,
-            kernel_only: false,
-            allowed_when_static: false,
-            swap: false,
-            set_flags: false,
-            to_label: false,
-            src0_may_be_pointer: false,
-            src1_may_be_pointer: false,
-        };
         let kept = Kept {
-            instruction,
+            instruction: no_record(),
             write: Location::None,
         };
+        // Word by word: a copy of the whole word keeps the state in memory, and costs a factor of two.
+        let previous = self.previous_code_word;
+        let word = U256 {
+            w0: previous.w0,
+            w1: previous.w1,
+            w2: previous.w2,
+            w3: previous.w3,
+        };
+        self.previous_code_word = word;
         self.timestamp = time;
         self.monotonic_cycle_counter = counter;
         self.kept = kept;
