@@ -16,7 +16,6 @@ use Rattle.frame.specs.Store.{savedStore, readOf}
 use Rattle.registers.specs.Registers.{emptyWord}
 use Rattle.signed.specs.Signed.{checkedOf, wordOf, signedOf}
 use Rattle.u256.specs.U256.{sumOf, differenceOf, isZero}
-use Rattle.rules.specs.declared.Record.{Record}
 use Rattle.rules.specs.Code.{codeBits}
 use Rattle.rules.specs.Record.{badRecords}
 use Rattle.rules.specs.Charge.{errorFlags}

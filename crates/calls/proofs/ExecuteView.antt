@@ -9,14 +9,14 @@ use native.Mathlib.Numerals.{add-one}
 use lib.Dec.{T, eqb, leb, ltb}
 use lib.ListN.{length}
 use mir.Val.{boolByte}
-use borrow.Author.Tests.{eqb-true, eqb-false, ltb-false, leb-true, eq-eqb, ne-eqb, not-false}
+use borrow.Author.Tests.{eqb-true, eqb-false, ltb-false, leb-true, not-false}
 use Rattle.u256.specs.declared.U256.{U256}
 use Rattle.frame.specs.declared.Frame.{Frame}
 use Rattle.frame.specs.declared.ReadAnswer.{ReadAnswer}
 use Rattle.frame.specs.Fields.{withPc}
 use Rattle.frame.specs.Kernel.{kernelMode}
 use Rattle.frame.specs.Refusal.{Check, firstOf, _refuses_}
-use Rattle.frame.specs.Row.{rowWidth, frameOf, goodRow}
+use Rattle.frame.specs.Row.{frameOf, goodRow}
 use Rattle.frame.specs.Store.{wholeRows, rowAt, savedStore, readOf}
 use Rattle.frame.proofs.StoreLaws.{saved-row, saved-below}
 use Rattle.rules.specs.declared.Settings.{Settings}
@@ -27,12 +27,11 @@ use Rattle.rules.specs.Ret.{pubdataAfter, counterAfter, isOutside, isBadCounter
 use Rattle.rules.proofs.RefusalLaws.{clear}
 use Rattle.cycle.specs.declared.State.{State}
 use Rattle.cycle.specs.declared.Executed.{Executed}
-use Rattle.cycle.specs.declared.ExecuteAnswer.{ExecuteAnswer}
-use Rattle.cycle.specs.State.{isEnded, badStore, outOfTurn, addressed}
+use Rattle.cycle.specs.State.{badStore, outOfTurn, addressed}
 use Rattle.cycle.specs.Effects.{finishedState, movedState, writtenState, switchedState}
 use Rattle.cycle.specs.Operands.{recordOf}
 use Rattle.cycle.specs.Helpers.{lateIn, refusedWith, isStored, nopRefusal, nopDone, nopOf}
-use Rattle.cycle.specs.NearCall.{callRefusal, callRefusalIn, passedIn, callerIn, nearCallDone, nearCallOf, nearCallStore}
+use Rattle.cycle.specs.NearCall.{callRefusalIn, passedIn, callerIn, nearCallDone, nearCallOf, nearCallStore}
 use Rattle.cycle.specs.Ret.{isOk, returnRefusal, closeRefusalIn, closeDone, closeOf, returnTo, returnOf}
 use Rattle.cycle.specs.Arithmetic.{arithmeticRefusalIn, arithmeticDone, arithmeticOf}
 use Rattle.cycle.specs.Execute.{sourcesIn, executeRefusalIn, wantIn, executeDone, executeOf, executeStore}
@@ -40,7 +39,7 @@ use Rattle.cycle.proofs.NearCallLaws.{room}
 use Rattle.lists.specs.Machine as machines
 use Rattle.lists.specs.Machine.{Outcome}
 use Rattle.lists.specs.Lists.{execute}
-use Rattle.lists.specs.Laws.{Advances, Performs, Spends}
+use Rattle.lists.specs.Laws.{Advances, Performs}
 use Rattle.calls.specs.Core.{core, ExecuteInput, executeRefused, executeOutcome, stageOf, operationOf}
 use Rattle.calls.specs.Answers.{isOneOf, executeNumbers}
 use Rattle.calls.proofs.Views.{View, refused, done, by-number, both, within, numbersIn, listed}

@@ -1,9 +1,9 @@
 -- Fetch, decode and operands of the cycle core as stages of a machine. Assumes nothing.
 use Prim.Native.Nat.{ℕ, _+_, _-_, min}
 use mathlib.Core.Bool.{Bool, true, false, not, _&&_}
-use mathlib.Core.Path.{_≡_, refl, ap, sym, _∙_}
+use mathlib.Core.Path.{_≡_, refl, ap}
 use mathlib.Core.List.{List, [], _∷_}
-use mathlib.Core.Option.{Option, none}
+use mathlib.Core.Option.{none}
 use native.Mathlib.Omega.{arith}
 use native.Mathlib.Nat.{add-zero}
 use lib.Dec.{eqb}
@@ -26,11 +26,10 @@ use Rattle.cycle.specs.State.{isEnded, badStore, outOfTurn, ready, fetched, dec
 use Rattle.cycle.specs.Fetch.{codeAnswer, fetchRefusal, fetchedState, fetchDone, fetchOf}
 use Rattle.cycle.specs.Decode.{errorsOf, decodeRefusal, decodedState, decodeDone, decodeOf}
 use Rattle.cycle.specs.Operands.{recordOf, operandsRefusal, addressedState, operandsDone, operandsOf}
-use Rattle.lists.specs.Machine as machines
-use Rattle.lists.specs.Machine.{Outcome, finished, chargeOf}
+use Rattle.lists.specs.Machine.{Outcome, chargeOf}
 use Rattle.lists.specs.Lists.{fetch, decode, operands}
 use Rattle.lists.specs.Laws.{Advances, Spends}
-use Rattle.calls.specs.Core.{core, FetchInput, DecodeInput, fetchRefused, decodeRefused, operandsRefused, fetchOutcome, decodeOutcome, operandsOutcome, stageOf, operationOf}
+use Rattle.calls.specs.Core.{core, FetchInput, DecodeInput, fetchRefused, decodeRefused, operandsRefused, fetchOutcome, decodeOutcome, operandsOutcome, stageOf}
 use Rattle.calls.specs.Answers.{fetchNumbers, decodeNumbers, operandsNumbers}
 use Rattle.calls.proofs.Views.{View, refused, done, by-number, listed}
 

@@ -1,11 +1,10 @@
 -- The edges that document 01 marks P, in its words and order, each computed by the definitions that the stages are proved equal to.
 use Prim.Native.Nat.{ℕ, _-_, _^_}
-use mathlib.Core.Bool.{Bool, true, false}
+use mathlib.Core.Bool.{true, false}
 use mathlib.Core.Path.{_≡_}
 use mathlib.Core.List.{List, [], _∷_}
 use lib.ListN.{replicate}
 use mir.Val.{boolByte}
-use Rattle.u256.specs.declared.U256.{U256}
 use Rattle.u256.specs.U256.{valueOf, wordsOf}
 use Rattle.frame.specs.Row.{frameOf}
 use Rattle.frame.specs.Store.{rowAt}

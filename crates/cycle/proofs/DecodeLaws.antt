@@ -11,7 +11,7 @@ use Rattle.rules.specs.declared.Record.{Record}
 use Rattle.rules.specs.declared.Records.{Records}
 use Rattle.rules.specs.declared.ErrorFlags.{ErrorFlags}
 use Rattle.rules.specs.Record.{badRecords}
-use Rattle.rules.specs.Charge.{priceOf, errorFlags, anyError}
+use Rattle.rules.specs.Charge.{priceOf, anyError}
 use Rattle.rules.specs.Condition.{conditionHolds}
 use Rattle.cycle.specs.declared.State.{State}
 use Rattle.cycle.specs.declared.Decoded.{Decoded}

@@ -1,5 +1,5 @@
 -- Near call: from what its parts give to what it gives. Assumes nothing.
-use Prim.Native.Nat.{ℕ, _+_, _-_, _/_, _^_, _≤_, _<_}
+use Prim.Native.Nat.{ℕ, _+_, _-_, _/_, _^_, _<_}
 use mathlib.Core.Bool.{Bool, false, _||_}
 use mathlib.Core.Path.{_≡_, sym, _∙_}
 use mathlib.Core.List.{List, [], _∷_}
@@ -8,7 +8,6 @@ use lib.Dec.{eqb, ltb}
 use lib.ListN.{length}
 use borrow.Author.Tests.{eq-eqb, ne-eqb, eqb-false, ltb-false}
 use Rattle.frame.specs.declared.Frame.{Frame}
-use Rattle.frame.specs.declared.PubdataCost.{PubdataCost}
 use Rattle.frame.specs.Refusal.{_refuses_}
 use Rattle.frame.specs.Row.{rowWidth}
 use Rattle.frame.specs.Store.{wholeRows, savedStore}

@@ -2,7 +2,7 @@
 -- condition false: the nop record. The delayed changes show from here. The answer gives the flags and the charge." "A charge is the smaller of the price and the
 -- ergs held."
 use Prim.Native.Nat.{ℕ, _-_, min}
-use mathlib.Core.Bool.{Bool, false, cond}
+use mathlib.Core.Bool.{false, cond}
 use mathlib.Core.List.{List, [], _∷_}
 use Rattle.frame.specs.Refusal.{firstOf, _refuses_}
 use Rattle.frame.specs.Fields.{withErgs}

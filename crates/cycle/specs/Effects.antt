@@ -1,6 +1,6 @@
 -- What execute changes of the state.
 use Prim.Native.Nat.{ℕ}
-use mathlib.Core.Bool.{Bool, false}
+use mathlib.Core.Bool.{false}
 use Rattle.u256.specs.declared.U256.{U256}
 use Rattle.frame.specs.declared.Frame.{Frame}
 use Rattle.frame.specs.declared.PubdataCost.{PubdataCost}

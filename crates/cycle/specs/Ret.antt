@@ -1,7 +1,7 @@
 -- Return from a local frame. Document 01: "A local return of any kind, panic too, adds all the ergs the closed frame holds to its caller's"; refusals 7, "return from a
 -- frame that is not local", and 8, "return at depth 0, or the top row is not good". The flags are cleared; a panic then sets overflow.
 use Prim.Native.Nat.{ℕ, _+_, _-_}
-use mathlib.Core.Bool.{Bool, false, not, cond}
+use mathlib.Core.Bool.{Bool, false, not}
 use mathlib.Core.List.{List, [], _∷_}
 use lib.Dec.{eqb}
 use Rattle.frame.specs.declared.Frame.{Frame}

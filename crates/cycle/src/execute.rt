@@ -44,7 +44,6 @@ impl State {
         let instruction = kept.instruction;
         let words = self.registers;
         let pointers = self.pointers;
-        let f = self.current;
         let sources = select::sources(instruction, words, pointers, word, pointer);
         let src0 = sources.src0;
         let src1 = sources.src1;
@@ -52,7 +51,7 @@ impl State {
         let sizes = refusal::bad_sizes(settings.depth_limit, self.depth, store.len());
         let bad = !parsing::good_record(instruction);
         let held = select::pointer_refused(
-            f.is_kernel_mode(),
+            self.current.is_kernel_mode(),
             instruction,
             src0.is_pointer,
             src1.is_pointer,

@@ -4,13 +4,13 @@ use mathlib.Core.Bool.{Bool, true, false, _||_}
 use mathlib.Core.Path.{_≡_, refl, ap, subst}
 use mathlib.Core.List.{List}
 use lib.Dec.{T, eqb}
-use borrow.Author.Tests.{eq-eqb, ne-eqb}
+use borrow.Author.Tests.{ne-eqb}
 use Rattle.u256.specs.Word.{wrappingSum, wrappingDifference}
 use Rattle.u256.specs.declared.U256.{U256}
 use Rattle.rules.specs.declared.Record.{Record}
 use Rattle.rules.specs.declared.Location.{Location}
 use Rattle.rules.specs.declared.Located.{Located}
-use Rattle.rules.specs.Address.{onStack, inCode, isStackKind, sourceAt, destinationAt, sourceOf, destinationOf, placesOf}
+use Rattle.rules.specs.Address.{onStack, inCode, isStackKind, sourceAt, destinationAt, placesOf}
 use Rattle.registers.proofs.Tables.{Others}
 
 module _ (kind stackPage codePage sp vaddr : ℕ) where

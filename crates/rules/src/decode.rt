@@ -1,6 +1,5 @@
 // Decode's rules: price, charge, error flags, conditions.
 ghost use mathlib.Core.Path.{_≡_};
-ghost use mathlib.Core.Bool.{cond};
 ghost use Prim.Native.Nat.{_-_, min};
 ghost use Rattle.rules.specs.Charge.{priceOf, errorFlags, anyError};
 ghost use Rattle.rules.specs.Condition.{conditionHolds};

@@ -33,8 +33,8 @@ returns c =
     let p6 = p5 .before in
     let p7 = p6 .before in
     let p10 = p7 .before .before .before in
-    let p17 = p10 .before .before .before .before .before .before .before in
-    let a = p17 .args in
+    let p16 = p10 .before .before .before .before .before .before in
+    let a = p16 .args in
     laws.refused (a .settings) (a .word) (a .pointer) (a .self) (a .store .now) _ (p10 .sources .ensures) _ (p7 .bad-sizes .ensures) _ (p6 .good-record .ensures) _ (p5 .is-kernel-mode .ensures) _ (p4 .pointer-refused .ensures) _ (p2 .execute-refusal .ensures) (p1 .if1 .taken) _ (c .refused .ensures)
 
 nop-requires : tie.Need-nop-requires
@@ -52,8 +52,8 @@ near-call-requires c κs =
     let p10 = p9 .before in
     let p11 = p10 .before in
     let p14 = p11 .before .before .before in
-    let p21 = p14 .before .before .before .before .before .before .before in
-    let a = p21 .args in
+    let p20 = p14 .before .before .before .before .before .before in
+    let a = p20 .args in
     laws.sized (a .settings) (a .word) (a .pointer) (a .self) (a .store .now) _ (p14 .sources .ensures) _ (p11 .bad-sizes .ensures) _ (p10 .good-record .ensures) _ (p9 .is-kernel-mode .ensures) _ (p8 .pointer-refused .ensures) _ (p6 .execute-refusal .ensures) (p5 .if1 .left)
 
 arithmetic-requires : tie.Need-arithmetic-requires
@@ -72,8 +72,8 @@ returns-2 c =
     let p9 = p8 .before in
     let p10 = p9 .before in
     let p13 = p10 .before .before .before in
-    let p20 = p13 .before .before .before .before .before .before .before in
-    let a = p20 .args in
+    let p19 = p13 .before .before .before .before .before .before in
+    let a = p19 .args in
     laws.nop (a .settings) (a .word) (a .pointer) (a .self) (a .store .now) _ (p13 .sources .ensures) _ (p10 .bad-sizes .ensures) _ (p9 .good-record .ensures) _ (p8 .is-kernel-mode .ensures) _ (p7 .pointer-refused .ensures) _ (p5 .execute-refusal .ensures) (p4 .if1 .left) (p1 .match .keys1) _ (c .nop .ensures)
 
 same-length : tie.Need-same-length
@@ -91,8 +91,8 @@ returns-3 c =
     let p13 = p12 .before in
     let p14 = p13 .before in
     let p17 = p14 .before .before .before in
-    let p24 = p17 .before .before .before .before .before .before .before in
-    let a = p24 .args in
+    let p23 = p17 .before .before .before .before .before .before in
+    let a = p23 .args in
     laws.near-call (a .settings) (a .word) (a .pointer) (a .self) (a .store .now) _ (p17 .sources .ensures) _ (p14 .bad-sizes .ensures) _ (p13 .good-record .ensures) _ (p12 .is-kernel-mode .ensures) _ (p11 .pointer-refused .ensures) _ (p9 .execute-refusal .ensures) (p8 .if1 .left) (p5 .match .keys2) _ (p4 .low-u32 .ensures) _ _ (p2 .near-call .ensures)
 
 returns-4 : tie.Need-returns-4
@@ -106,8 +106,8 @@ returns-4 c =
     let p10 = p9 .before in
     let p11 = p10 .before in
     let p14 = p11 .before .before .before in
-    let p21 = p14 .before .before .before .before .before .before .before in
-    let a = p21 .args in
+    let p20 = p14 .before .before .before .before .before .before in
+    let a = p20 .args in
     laws.arithmetic (a .settings) (a .word) (a .pointer) (a .self) (a .store .now) _ (p14 .sources .ensures) _ (p11 .bad-sizes .ensures) _ (p10 .good-record .ensures) _ (p9 .is-kernel-mode .ensures) _ (p8 .pointer-refused .ensures) _ (p6 .execute-refusal .ensures) (p5 .if1 .left) (p2 .match .rest .0 .1) (p1 .if2 .taken) _ (c .arithmetic .ensures)
 
 same-length-2 : tie.Need-same-length-2
@@ -124,8 +124,8 @@ returns-5 c =
     let p11 = p10 .before in
     let p12 = p11 .before in
     let p15 = p12 .before .before .before in
-    let p22 = p15 .before .before .before .before .before .before .before in
-    let a = p22 .args in
+    let p21 = p15 .before .before .before .before .before .before in
+    let a = p21 .args in
     laws.ret (a .settings) (a .word) (a .pointer) (a .self) (a .store .now) _ (p15 .sources .ensures) _ (p12 .bad-sizes .ensures) _ (p11 .good-record .ensures) _ (p10 .is-kernel-mode .ensures) _ (p9 .pointer-refused .ensures) _ (p7 .execute-refusal .ensures) (p6 .if1 .left) (p3 .match .rest .0 .1) (p3 .match .rest .1) (p2 .if2 .left) _ (c .ret .ensures)
 
 pub execute-spec : {M : Type 1} → statement M
