@@ -1,6 +1,6 @@
 -- Document 01's listing as a list of stage calls, with refused ones between: its figures come out by computation, and the claim on near calls applies to it. The
--- request of a near call is the word that execute is given. Assumes nothing.
-use Prim.Native.Nat.{ℕ, zero, suc, _<_}
+-- request of a near call is the word that execute is given, as no call of a stage sets a register. Assumes nothing.
+use Prim.Native.Nat.{ℕ, zero, suc, _+_, _<_}
 use mathlib.Core.Bool.{false}
 use mathlib.Core.Logic.{_≢_}
 use mathlib.Core.Path.{_≡_, refl}
@@ -12,7 +12,8 @@ use lib.ListN.{take, drop, replicate}
 use Rattle.u256.specs.U256.{lowOf}
 use Rattle.frame.specs.Fields.{withErgs, withSp, withPc}
 use Rattle.frame.specs.Kernel.{kernelMode}
-use Rattle.frame.specs.Store.{savedStore, readOf}
+use Rattle.frame.specs.Row.{frameOf}
+use Rattle.frame.specs.Store.{rowAt, savedStore, readOf}
 use Rattle.registers.specs.Registers.{emptyWord}
 use Rattle.signed.specs.Signed.{checkedOf, wordOf, signedOf}
 use Rattle.u256.specs.U256.{sumOf, differenceOf, isZero}
@@ -59,20 +60,29 @@ listing = line 1 0 6 0 ++ (line 3 0 25 300 ++ (line 1 0 6 0 ++ (line 4 0 5 0 ++ 
 abbrev pub start : State
 start = stateAt 0 (replicate 15 emptyWord) 1000 0 (instruction 0 0 0 0 0 0 0 0 0 0 false)
 
--- of a finished decode the charge, of a finished execute the ergs of the frame that is current then
+-- ergs of the rows saved
+abbrev pub saved : ℕ → List ℕ → ℕ
+saved zero store = 0
+saved (suc i) store = frameOf (rowAt store i) .«ergs_remaining» + saved i store
+
+-- of a finished decode the charge; of a finished execute the depth, the ergs of the frame that is current then, and those of all frames
 abbrev pub figure : Event core → List ℕ
 figure (called (fetch x) s store) = []
 figure (called (decode x) s store) = chargeOf core x s ∷ []
 figure (called (operands x) s store) = []
-figure (called (execute x) s store) = executeOutcome x s store .state .current .«ergs_remaining» ∷ []
+figure (called (execute x) s store) =
+    let o = executeOutcome x s store in
+    o .state .depth ∷ o .state .current .«ergs_remaining» ∷ (o .state .current .«ergs_remaining» + saved (o .state .depth) (o .store)) ∷ []
 
 abbrev pub joined : List (List ℕ) → List ℕ
 joined [] = []
 joined (l ∷ ls) = l ++ joined ls
 
--- charge and ergs held of the six lines: "add 6 .. 994", "call 25 .. 300", "add 6 .. 294", "ok 5 .. 958", "call 25 .. 933", "revert 5 .. 928"
+-- charge, depth, held and total of the six lines
 pub figures : joined (map figure (finishedOf core (trace core listing start (emptyStore 4))))
-    ≡ 6 ∷ 994 ∷ 25 ∷ 300 ∷ 6 ∷ 294 ∷ 5 ∷ 958 ∷ 25 ∷ 933 ∷ 5 ∷ 928 ∷ []
+    ≡ (6 ∷ 1 ∷ 994 ∷ 994 ∷ [])
+    ++ ((25 ∷ 2 ∷ 300 ∷ 969 ∷ [])
+    ++ ((6 ∷ 2 ∷ 294 ∷ 963 ∷ []) ++ ((5 ∷ 1 ∷ 958 ∷ 958 ∷ []) ++ ((25 ∷ 2 ∷ 933 ∷ 933 ∷ []) ++ (5 ∷ 1 ∷ 928 ∷ 928 ∷ [])))))
 unfolding finishedOf trace chargeOf withErgs withSp withPc kernelMode readOf lowOf checkedOf wordOf signedOf sumOf differenceOf isZero codeBits badRecords errorFlags sourceAt destinationAt placesOf sourcesOf callerOf openedOf resumedWith resumedOf savedStore flagsAfter finishedState movedState writtenState switchedState fetchedState fetchDone fetchOf decodedState decodeDone decodeOf addressedState operandsDone operandsOf nopDone nopOf nearCallDone nearCallOf nearCallStore arithmeticDone arithmeticOf closeDone closeOf returnOf executeDone executeOf executeStore
 figures = refl
 

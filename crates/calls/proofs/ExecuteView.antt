@@ -176,7 +176,7 @@ module _ (x : ExecuteInput) (s : State) (store : List ℕ) (at : stageOf (s .sta
     where
       down : (n : ℕ) → (n ≡ 0 → ⊥) → n ≡ suc (n - 1)
       down n h = omega arith
-  close-view e d ReadAnswer.Missing q = unchanged 8 refl
+  close-view e d ReadAnswer.Missing q = unchanged 1 refl
   close-view e d ReadAnswer.NotGood q = unchanged 8 refl
 
   return-view : operationOf op ≡ machines.ret → Viewed (returnOf settings s store) store

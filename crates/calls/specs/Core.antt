@@ -82,7 +82,7 @@ executeOutcome x s store = record {
   store = executeStore (x .settings) (x .word) (x .pointer) s store;
 }
 
--- stages 0 to 3
+-- stages 0 to 3; at any other number every call is refused
 abbrev pub stageOf : ℕ → machines.Stage
 stageOf n = cond (eqb n 0) machines.ready (cond (eqb n 1) machines.fetched (cond (eqb n 2) machines.decoded machines.addressed))
 

@@ -2,7 +2,7 @@
 use Prim.Native.Nat.{ℕ, _-_, _^_}
 use mathlib.Core.Bool.{true, false}
 use mathlib.Core.Path.{_≡_}
-use mathlib.Core.List.{List, [], _∷_}
+use mathlib.Core.List.{List, [], _∷_, _++_}
 use lib.ListN.{replicate}
 use mir.Val.{boolByte}
 use Rattle.u256.specs.U256.{valueOf, wordsOf}
@@ -11,13 +11,17 @@ use Rattle.frame.specs.Store.{rowAt}
 use Rattle.registers.specs.Registers.{emptyWord, registerOf}
 use Rattle.rules.specs.declared.Location.{Location}
 use Rattle.rules.specs.declared.Flags.{Flags}
-use Rattle.rules.specs.Code.{superPc, subPc}
-use Rattle.rules.specs.Time.{nextPc}
 use Rattle.cycle.specs.declared.State.{State}
 use Rattle.cycle.specs.declared.Decoded.{Decoded}
 use Rattle.cycle.specs.declared.DecodeAnswer.{DecodeAnswer}
 use Rattle.cycle.specs.declared.Addressed.{Addressed}
 use Rattle.cycle.specs.declared.OperandsAnswer.{OperandsAnswer}
+use Rattle.cycle.specs.declared.FetchAnswer.{FetchAnswer}
+use Rattle.cycle.specs.declared.Event.{Event}
+use Rattle.cycle.specs.declared.Executed.{Executed}
+use Rattle.cycle.specs.declared.ExecuteAnswer.{ExecuteAnswer}
+use Rattle.cycle.specs.Effects.{movedState}
+use Rattle.cycle.specs.Fetch.{queryOf, fetchOf}
 use Rattle.cycle.specs.Decode.{decodeOf}
 use Rattle.cycle.specs.Operands.{operandsOf}
 use Rattle.cycle.specs.Execute.{executeOf, executeStore}
@@ -40,22 +44,31 @@ decodes ergs price = figures (after .state) (after .answer)
         decodeOf (settingsOf 4 1) (recordsOf (instruction 1 0 0 0 0 0 0 0 0 price false)) (stateAt 1 (replicate 15 emptyWord) ergs 0 (instruction 0 0 0 0 0 0 0 0 0 0 false))
         (emptyStore 4)
 
--- a near call that requests so much, at this multiplier and so many ergs: what is given, and what is kept in the caller's row
+-- a near call that requests so much, at this multiplier and so many ergs: the depth afterwards, what is given, and what is kept in the caller's row
+abbrev division : State → ExecuteAnswer → List ℕ → List ℕ
+division s (ExecuteAnswer.Done write Event.Opened) row = s .depth ∷ s .current .«ergs_remaining» ∷ frameOf row .«ergs_remaining» ∷ []
+division s (ExecuteAnswer.Done write Event.None) row = []
+division s (ExecuteAnswer.Done write (Event.Closed panicked)) row = []
+division s (ExecuteAnswer.Refused n) row = n ∷ []
+
 abbrev pub calls : ℕ → ℕ → ℕ → List ℕ
 calls multiplier held want =
-    executeOf (settingsOf 4 multiplier) emptyWord false s (emptyStore 4) .state .current .«ergs_remaining»
-    ∷ frameOf (rowAt (executeStore (settingsOf 4 multiplier) emptyWord false s (emptyStore 4)) 1) .«ergs_remaining»
-    ∷ []
+    division (after .state) (after .answer) (rowAt (executeStore (settingsOf 4 multiplier) emptyWord false s (emptyStore 4)) 1)
   where
     s : State
     s = stateAt 3 (word want ∷ replicate 14 emptyWord) held 0 (instruction 3 0 0 0 1 0 0 0 0 0 false)
 
--- operands of these kinds (2 is push/pop) with these immediates, at this sp: the source's index, the destination's, and sp afterwards
+    after : Executed
+    after = executeOf (settingsOf 4 multiplier) emptyWord false s (emptyStore 4)
+
+-- a location: 1 and its index, or 0 and 0 where there is none
+abbrev place : Location → List ℕ
+place Location.None = 0 ∷ 0 ∷ []
+place (Location.At kind page index) = 1 ∷ index ∷ []
+
+-- operands of these kinds (2 is push/pop) with these immediates, at this sp: the source, the destination, and sp afterwards
 abbrev places : State → OperandsAnswer → List ℕ
-places s (OperandsAnswer.Done Location.None Location.None) = s .current .sp ∷ []
-places s (OperandsAnswer.Done (Location.At k p i) Location.None) = i ∷ s .current .sp ∷ []
-places s (OperandsAnswer.Done Location.None (Location.At k p i)) = i ∷ s .current .sp ∷ []
-places s (OperandsAnswer.Done (Location.At k p i) (Location.At l q j)) = i ∷ j ∷ s .current .sp ∷ []
+places s (OperandsAnswer.Done source destination) = place source ++ (place destination ++ (s .current .sp ∷ []))
 places s (OperandsAnswer.Refused n) = n ∷ []
 
 abbrev pub addresses : ℕ → ℕ → ℕ → ℕ → ℕ → List ℕ
@@ -76,24 +89,40 @@ combines operation a b = valueOf (registerOf (after .registers) 3) ∷ bits (aft
         executeOf (settingsOf 4 1) emptyWord false
         (stateAt 3 (wordsOf a ∷ wordsOf b ∷ replicate 13 emptyWord) 0 0 (instruction operation 0 0 0 1 2 3 0 0 0 true)) (emptyStore 4) .state
 
+-- a nop at this pc: the code word that the query asks for, the part of it that fetch answers (each part holds its number, the highest 64 bits 0), and pc afterwards
+abbrev part : FetchAnswer → List ℕ
+part (FetchAnswer.Code bits) = bits ∷ []
+part FetchAnswer.Exception = []
+part FetchAnswer.Nop = []
+part (FetchAnswer.Refused n) = []
+
+abbrev pub steps : ℕ → List ℕ
+steps pc =
+    place (queryOf (at 0))
+    ++ (part (fetchOf (settingsOf 4 1) (record { w0 = 3; w1 = 2; w2 = 1; w3 = 0 }) (at 0) (emptyStore 4) .answer)
+    ++ (executeOf (settingsOf 4 1) emptyWord false (at 3) (emptyStore 4) .state .current .pc ∷ []))
+  where
+    at : ℕ → State
+    at stage = movedState (stateAt stage (replicate 15 emptyWord) 0 0 (instruction 0 0 0 0 0 0 0 0 0 0 false)) pc
+
 abbrev pub edges : List Edge
 edges =
     -- "ergs 100: price 100 leaves 0, no flag; price 101 leaves 0, panic, charge 100"
     record { computed = decodes 100 100; stated = 0 ∷ 0 ∷ 100 ∷ 1 ∷ [] }
     ∷ record { computed = decodes 100 101; stated = 0 ∷ 1 ∷ 100 ∷ 4 ∷ [] }
     -- "held 969: want 300 gives 300 and keeps 669; want 0, 969 or 970 gives 969 and keeps 0"
-    ∷ record { computed = calls 1 969 300; stated = 300 ∷ 669 ∷ [] }
-    ∷ record { computed = calls 1 969 0; stated = 969 ∷ 0 ∷ [] }
-    ∷ record { computed = calls 1 969 969; stated = 969 ∷ 0 ∷ [] }
-    ∷ record { computed = calls 1 969 970; stated = 969 ∷ 0 ∷ [] }
+    ∷ record { computed = calls 1 969 300; stated = 2 ∷ 300 ∷ 669 ∷ [] }
+    ∷ record { computed = calls 1 969 0; stated = 2 ∷ 969 ∷ 0 ∷ [] }
+    ∷ record { computed = calls 1 969 969; stated = 2 ∷ 969 ∷ 0 ∷ [] }
+    ∷ record { computed = calls 1 969 970; stated = 2 ∷ 969 ∷ 0 ∷ [] }
     -- "want 2,147,483,648 times 2 passes all"
-    ∷ record { computed = calls 2 969 2147483648; stated = 969 ∷ 0 ∷ [] }
+    ∷ record { computed = calls 2 969 2147483648; stated = 2 ∷ 969 ∷ 0 ∷ [] }
     -- "sp 0, pop 1: index and sp 65,535"
-    ∷ record { computed = addresses 2 0 1 0 0; stated = 65535 ∷ 65535 ∷ [] }
+    ∷ record { computed = addresses 2 0 1 0 0; stated = 1 ∷ 65535 ∷ 0 ∷ 0 ∷ 65535 ∷ [] }
     -- "sp 65,535, push 1: index 65,535, sp 0"
-    ∷ record { computed = addresses 0 2 0 1 65535; stated = 65535 ∷ 0 ∷ [] }
+    ∷ record { computed = addresses 0 2 0 1 65535; stated = 0 ∷ 0 ∷ 1 ∷ 65535 ∷ 0 ∷ [] }
     -- "sp 10, pop 1 and push 2 together: both index 9, sp 11"
-    ∷ record { computed = addresses 2 2 1 2 10; stated = 9 ∷ 9 ∷ 11 ∷ [] }
+    ∷ record { computed = addresses 2 2 1 2 10; stated = 1 ∷ 9 ∷ 1 ∷ 9 ∷ 11 ∷ [] }
     -- "(2^256 - 1) + 1: 0, overflow and equal"
     ∷ record { computed = combines 1 (2 ^ 256 - 1) 1; stated = 0 ∷ 1 ∷ 1 ∷ 0 ∷ [] }
     -- "0 - 1: overflow only"
@@ -101,7 +130,7 @@ edges =
     -- "5 - 5: equal only"
     ∷ record { computed = combines 2 5 5; stated = 0 ∷ 0 ∷ 1 ∷ 0 ∷ [] }
     -- "pc 65,535: super 16,383, sub 3, next 0"
-    ∷ record { computed = superPc 65535 ∷ subPc 65535 ∷ nextPc 16 65535 false ∷ []; stated = 16383 ∷ 3 ∷ 0 ∷ [] }
+    ∷ record { computed = steps 65535; stated = 1 ∷ 16383 ∷ 3 ∷ 0 ∷ [] }
     ∷ []
 
 -- every line of the table holds

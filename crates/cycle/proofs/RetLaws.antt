@@ -76,7 +76,7 @@ module _ (settings : Settings) (s : State) (store : List ℕ) (n : ℕ) (en : n 
     unfolding returnOf
     good caller e r ex = rw (← en, eq-eqb n 0 z, ← ei, ← er, e) ex
 
-    pub missing : row ≡ ReadAnswer.Missing → (r : Executed) → r ≡ refusedWith s 8 → r ≡ returnOf settings s store
+    pub missing : row ≡ ReadAnswer.Missing → (r : Executed) → r ≡ refusedWith s 1 → r ≡ returnOf settings s store
     unfolding returnOf
     missing e r ex = rw (← en, eq-eqb n 0 z, ← ei, ← er, e) ex
 

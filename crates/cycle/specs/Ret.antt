@@ -8,7 +8,7 @@ use Rattle.frame.specs.declared.Frame.{Frame}
 use Rattle.frame.specs.declared.PubdataCost.{PubdataCost}
 use Rattle.frame.specs.declared.ReadAnswer.{ReadAnswer}
 use Rattle.frame.specs.Refusal.{firstOf, _refuses_}
-use Rattle.frame.specs.Store.{readOf}
+use Rattle.frame.specs.Store.{readOf, readNumber}
 use Rattle.rules.specs.declared.Settings.{Settings}
 use Rattle.rules.specs.declared.Flags.{Flags}
 use Rattle.rules.specs.Ret.{counterAfter, costOf, closeRefusal, resumedOf}
@@ -55,8 +55,8 @@ closeOf settings caller s = settled (closeRefusalIn settings caller s) (refusedW
 -- by what the top row holds
 abbrev pub returnTo : Settings → State → ReadAnswer → Executed
 returnTo settings s (ReadAnswer.Good caller) = closeOf settings caller s
-returnTo settings s ReadAnswer.Missing = refusedWith s 8
-returnTo settings s ReadAnswer.NotGood = refusedWith s 8
+returnTo settings s ReadAnswer.Missing = refusedWith s (readNumber ReadAnswer.Missing)
+returnTo settings s ReadAnswer.NotGood = refusedWith s (readNumber ReadAnswer.NotGood)
 
 unfoldable pub returnOf : Settings → State → List ℕ → Executed
 returnOf settings s store =

@@ -79,7 +79,7 @@ impl State {
         let row = frame::read_frame(store, decode::less(depth, 1));
         match row {
             ReadAnswer::Good(caller) => self.close(settings, caller),
-            ReadAnswer::Missing => self.refused(8),
+            ReadAnswer::Missing => self.refused(1),
             ReadAnswer::NotGood => self.refused(8),
         }
     }
