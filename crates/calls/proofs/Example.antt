@@ -8,7 +8,7 @@ use mathlib.Core.List.{List, [], _∷_, _++_, map}
 use mathlib.Core.Option.{none}
 use native.Mathlib.Omega.{arith}
 use native.Mathlib.Nat.{lt-irrefl}
-use lib.ListN.{take, drop, replicate}
+use lib.ListN.{take, drop}
 use Rattle.u256.specs.U256.{lowOf}
 use Rattle.frame.specs.Fields.{withErgs, withSp, withPc}
 use Rattle.frame.specs.Kernel.{kernelMode}
@@ -41,7 +41,7 @@ use Rattle.lists.specs.Claims.{ClosesWithLast, CallerResumes, span}
 use Rattle.lists.proofs.Resume.{callers-resume}
 use Rattle.calls.specs.Core.{core, executeOutcome}
 use Rattle.calls.proofs.CoreLaws.{laws}
-use Rattle.calls.specs.Start.{word, instruction, recordsOf, stateAt, settingsOf, emptyStore}
+use Rattle.stepper.specs.Start.{word, instruction, recordsOf, startState, settingsOf, emptyStore}
 
 -- a line of the listing: operation, return kind, price, request. Operands are called with a limit of 0, which is refusal 1, and fetch out of its turn, which is 2.
 abbrev pub line : ℕ → ℕ → ℕ → ℕ → List (Call core)
@@ -58,7 +58,7 @@ abbrev pub listing : List (Call core)
 listing = line 1 0 6 0 ++ (line 3 0 25 300 ++ (line 1 0 6 0 ++ (line 4 0 5 0 ++ (line 3 0 25 0 ++ line 4 1 5 0))))
 
 abbrev pub start : State
-start = stateAt 0 (replicate 15 emptyWord) 1000 0 (instruction 0 0 0 0 0 0 0 0 0 0 false)
+start = startState 1000 0
 
 -- ergs of the rows saved
 abbrev pub saved : ℕ → List ℕ → ℕ

@@ -1,4 +1,3 @@
 pub mod Core
 pub mod Answers
-pub mod Start
 pub mod Edges

@@ -20,7 +20,7 @@ use Rattle.cycle.specs.Effects.{noFlags}
 abbrev pub word : ℕ → U256
 word n = record { w0 = n; w1 = 0; w2 = 0; w3 = 0 }
 
-abbrev noAddress : Address
+abbrev pub noAddress : Address
 noAddress = record { a0 = 0; a1 = 0; a2 = 0; a3 = 0; a4 = 0 }
 
 abbrev pub farFrame : ℕ → ℕ → Frame
@@ -70,9 +70,13 @@ instruction operation kind source destination src0 src1 dst0 imm0 imm1 price fla
   «src1_may_be_pointer» = false;
 }
 
+-- all of it 0 and no: a nop
+abbrev pub noInstruction : Record
+noInstruction = instruction 0 0 0 0 0 0 0 0 0 0 false
+
 -- the masked records: a panic return and a nop
 abbrev pub recordsOf : Record → Records
-recordsOf plain = record { plain = plain; panic = instruction 4 2 0 0 0 0 0 0 0 0 false; nop = instruction 0 0 0 0 0 0 0 0 0 0 false }
+recordsOf plain = record { plain = plain; panic = instruction 4 2 0 0 0 0 0 0 0 0 false; nop = noInstruction }
 
 abbrev pub stateAt : ℕ → List U256 → ℕ → ℕ → Record → State
 stateAt stage registers ergs sp kept = record {
@@ -93,6 +97,10 @@ stateAt stage registers ergs sp kept = record {
   «has_word» = false;
   «pending_exception» = false;
 }
+
+-- ready, with no register set
+abbrev pub startState : ℕ → ℕ → State
+startState ergs sp = stateAt 0 (replicate 15 emptyWord) ergs sp noInstruction
 
 abbrev pub settingsOf : ℕ → ℕ → Settings
 settingsOf limit multiplier = record { «depth_limit» = limit; «near_call_multiplier» = multiplier; «time_step» = 4 }
