@@ -1,0 +1,4 @@
+pub mod Tests
+pub mod BytesLaws
+pub mod PartsLaws
+pub mod NumberLaws
