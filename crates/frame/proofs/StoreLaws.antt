@@ -7,15 +7,16 @@ use mathlib.Core.List.{List, [], _∷_, _++_, append-nil}
 use native.Mathlib.Omega.{arith}
 use native.Mathlib.Nat.{add-sub-cancel-left, zero-add, suc-add}
 use lib.Dec.{ltb, leb}
-use lib.ListN.{length, take, drop, length-drop, length-append}
-use lib.Seq.{take-all, take-nil, drop-length, drop-drop, drop-at, take-take, take-append-le, drop-append-add, length-take-le, ext-getD}
+use native.Mathlib.Numerals.{add-one}
+use lib.ListN.{length, take, drop, getD, length-drop, length-append, List·getD-eq-default}
+use lib.Seq.{take-all, take-nil, drop-length, drop-drop, drop-at, take-take, take-append-le, drop-append-add, length-take-le, ext-getD, getD-take, getD-drop}
 use borrow.Author.Tests.{lt-ltb, le-ltb, le-leb, ltb-true, ltb-false}
 use Rattle.frame.specs.declared.Frame.{Frame}
 use Rattle.frame.specs.declared.SaveAnswer.{SaveAnswer}
 use Rattle.frame.specs.declared.ReadAnswer.{ReadAnswer}
 use Rattle.frame.specs.Row.{rowWidth, rowOf, word, frameOf, goodWords}
 use Rattle.frame.specs.Bounds.{Bounds}
-use Rattle.frame.specs.Store.{wholeRows, rowAt, storeWith, saveOf, savedStore, saveNumber, saveRefusal, readOf, readNumber, readRefusal}
+use Rattle.frame.specs.Store.{wholeRows, rowAt, storeWith, saveOf, savedStore, saveNumber, saveRefusal, readOf, readNumber, readRefusal, savedErgs}
 use Rattle.frame.proofs.RowLaws.{Ranges, bounds, good-of-frame, frame-of-row}
 
 -- a row that the store has lies in it whole
@@ -175,3 +176,16 @@ rows-agree s t i j hs ht = (
   λ e k l. ap (λ (row : List ℕ). word row k) e,
   λ e. ext-getD 0 (rowAt s i) (rowAt t j) (row-size s i hs ∙ sym (row-size t j ht)) (λ k l. e k (omega (arith, row-size s i hs))),
 )
+
+-- ---- the ergs of a row
+-- where a row has them
+pub ergs-at : (store : List ℕ) (i : ℕ) → getD store (i * rowWidth + 20) 0 ≡ frameOf (rowAt store i) .«ergs_remaining»
+ergs-at store i = sym (getD-take rowWidth (drop (i * rowWidth) store) 20 0 (omega arith) ∙ getD-drop (i * rowWidth) store 20 0)
+
+-- of a row that the store has not
+pub no-ergs : (store : List ℕ) (i : ℕ) → length store ≤ i * rowWidth + 20 → 0 ≡ frameOf (rowAt store i) .«ergs_remaining»
+no-ergs store i h = sym (List·getD-eq-default store 0 h) ∙ ergs-at store i
+
+-- one row more
+pub savedErgs-more : (store : List ℕ) (i sum ergs : ℕ) → sum ≡ savedErgs i store → ergs ≡ frameOf (rowAt store i) .«ergs_remaining» → sum + ergs ≡ savedErgs (i + 1) store
+savedErgs-more store i sum ergs es ee = rw (add-one i, ← ee, ← es) (omega arith)

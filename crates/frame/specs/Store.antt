@@ -1,6 +1,6 @@
 -- The frame store: rows of words, one after the other, and the answers of saving and reading row i. Document 01: "Depth is the number of saved rows, the
 -- oldest first."
-use Prim.Native.Nat.{ℕ, _+_, _*_, _/_}
+use Prim.Native.Nat.{ℕ, zero, suc, _+_, _*_, _/_}
 use mathlib.Core.Bool.{cond, not}
 use mathlib.Core.List.{List, [], _∷_, _++_}
 use lib.Dec.{ltb}
@@ -58,3 +58,8 @@ readNumber ReadAnswer.NotGood = 8
 -- the number by its checks
 abbrev pub readRefusal : ℕ → List ℕ → ℕ → ℕ
 readRefusal w store i = firstOf ((not (ltb i (wholeRows store)) refuses 1) ∷ (not (goodRow w (rowAt store i)) refuses 8) ∷ [])
+
+-- ---- the ergs of the first rows, as many as are given
+abbrev pub savedErgs : ℕ → List ℕ → ℕ
+savedErgs zero store = 0
+savedErgs (suc i) store = frameOf (rowAt store i) .«ergs_remaining» + savedErgs i store

@@ -1,13 +1,17 @@
 // The call stack's frames, and the frame store: a lent slice of words, one row for each saved frame.
 ghost use mathlib.Core.Path.{_≡_};
 ghost use Rattle.frame.specs.Kernel.{kernelMode};
-ghost use Rattle.frame.specs.Row.{goodRow};
-ghost use Rattle.frame.specs.Store.{saveOf, savedStore, saveNumber, saveRefusal, readOf, readNumber, readRefusal};
+ghost use Prim.Native.Nat.{_*_, _≤_};
+ghost use Rattle.frame.specs.Row.{goodRow, frameOf};
+ghost use Rattle.frame.specs.Store.{saveOf, savedStore, saveNumber, saveRefusal, readOf, readNumber, readRefusal, rowAt, savedErgs};
 
 mod row;
 
 // The words of a row.
 pub const ROW_WIDTH: usize = 34;
+
+// Where a row has its ergs.
+const ERGS: usize = 20;
 
 // 20 bytes in five words, the first byte highest.
 pub struct Address {
@@ -112,4 +116,26 @@ pub fn read_frame(store: &[u32], i: u32) -> ReadAnswer
     } else {
         ReadAnswer::NotGood
     }
+}
+
+// The ergs of row i; a row that the store has not holds none.
+fn row_ergs(store: &[u32], i: u32) -> u32
+    ensures { λ r. ⌜ r ≡ frameOf (rowAt (now (store .entry)) i) .«ergs_remaining» ⌝ }
+{
+    let at = (i as usize) * ROW_WIDTH + ERGS;
+    if at < store.len() { store[at] } else { 0 }
+}
+
+// The ergs of the first rows, as many as the depth.
+pub fn saved_ergs(store: &[u32], depth: u32) -> u64
+    ensures { λ r. ⌜ (r ≡ savedErgs depth (now (store .entry))) × (r ≤ depth * 4294967295) ⌝ }
+{
+    let mut sum: u64 = 0;
+    let mut i: u32 = 0;
+    while i < depth {
+        let ergs = row_ergs(store, i);
+        sum += ergs as u64;
+        i += 1;
+    }
+    sum
 }

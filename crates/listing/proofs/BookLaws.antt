@@ -1,0 +1,65 @@
+-- One line's cycle: from what its parts give to what it gives. Assumes nothing.
+use Prim.Native.Nat.{ℕ}
+use mathlib.Core.Bool.{Bool, true, false, cond}
+use mathlib.Core.Path.{_≡_, refl, sym, ap, _∙_}
+use mathlib.Core.List.{List}
+use lib.Dec.{eqb}
+use borrow.Author.Tests.{eq-eqb, ne-eqb, eqb-true}
+use Rattle.cycle.specs.declared.State.{State}
+use Rattle.stepper.specs.declared.Input.{Input}
+use Rattle.stepper.specs.declared.Cycled.{Cycled}
+use Rattle.stepper.specs.Cycle.{cycleOf, cycleStore, cycleNumber, cycleCharge}
+use Rattle.tally.specs.declared.EnterAnswer.{EnterAnswer}
+use Rattle.tally.specs.Tally.{enterRefusal, enterAnswer, enterOf, tallyAfter}
+use Rattle.table.specs.declared.Op.{Op}
+use Rattle.listing.specs.declared.Ran.{Ran}
+use Rattle.listing.specs.Book.{Book, inputOf, requestedState, ranOf, storeAfter, entriesAfter}
+
+-- ---- the number of an entry's answer
+numberOf : EnterAnswer → ℕ
+numberOf EnterAnswer.Entered = 0
+numberOf (EnterAnswer.Refused n) = n
+
+answer-number : (n : ℕ) (b : Bool) → eqb n 0 ≡ b → numberOf (cond b EnterAnswer.Entered (EnterAnswer.Refused n)) ≡ n
+unfolding numberOf
+answer-number n true e = sym (eqb-true n 0 e)
+answer-number n false e = refl
+
+number : (r : EnterAnswer) (tally : List ℕ) (limit before after charge : ℕ) → r ≡ enterOf tally limit before after charge
+    → numberOf r ≡ enterRefusal tally limit before after charge
+unfolding enterOf
+number r tally limit before after charge e = ap numberOf e ∙ answer-number (enterRefusal tally limit before after charge) _ refl
+
+pub entered : (tally : List ℕ) (limit before after charge : ℕ) {r : EnterAnswer} → r ≡ enterOf tally limit before after charge → r ≡ EnterAnswer.Entered
+    → 0 ≡ enterRefusal tally limit before after charge
+unfolding numberOf
+entered tally limit before after charge e k = sym (ap numberOf k) ∙ number _ tally limit before after charge e
+
+pub not-entered : (tally : List ℕ) (limit before after charge : ℕ) {r : EnterAnswer} {n : ℕ} → r ≡ enterOf tally limit before after charge → r ≡ EnterAnswer.Refused n
+    → n ≡ enterRefusal tally limit before after charge
+unfolding numberOf
+not-entered tally limit before after charge e k = sym (ap numberOf k) ∙ number _ tally limit before after charge e
+
+-- ---- the cycle and its entry
+abbrev bookOf : State → List ℕ → List ℕ → Book
+bookOf s store tally = record { state = s; store = store; tally = tally }
+
+-- what was run
+abbrev pub Runs : ℕ → Op → ℕ → ℕ → State → List ℕ → List ℕ → Ran → List ℕ → List ℕ → Type 0
+Runs limit op price want s store tally r store′ tally′ =
+    (r ≡ ranOf limit op price want (bookOf s store tally))
+    × (store′ ≡ storeAfter limit op price want (bookOf s store tally))
+    × (tally′ ≡ entriesAfter limit op price want (bookOf s store tally))
+
+module _ (limit : ℕ) (op : Op) (price want : ℕ) (s : State) (store tally : List ℕ) (input : Input) (ei : input ≡ inputOf limit op price) (given : State)
+    (eg : given ≡ requestedState s want) (r : Cycled) (store′ : List ℕ) (er : (r ≡ cycleOf input given store) × (store′ ≡ cycleStore input given store)) (n : ℕ)
+    (en : n ≡ cycleNumber (r .answer)) (charge : ℕ) (ec : charge ≡ cycleCharge (r .answer)) where
+  pub refused : (n ≡ 0 → ⊥) → Runs limit op price want s store tally (record { state = r .state; number = n; charge = charge }) store′ tally
+  unfolding ranOf storeAfter entriesAfter
+  refused t = rw (← ei, ← eg, ← er .0, ← er .1, ← en, ← ec, ne-eqb n 0 t) (refl, refl, refl)
+
+  pub done : n ≡ 0 → (m : ℕ) (tally′ : List ℕ)
+      → (m ≡ enterRefusal tally limit (s .depth) (r .state .depth) charge) × (tally′ ≡ tallyAfter tally limit (s .depth) (r .state .depth) charge)
+      → Runs limit op price want s store tally (record { state = r .state; number = m; charge = charge }) store′ tally′
+  unfolding ranOf storeAfter entriesAfter
+  done z m tally′ em = rw (← ei, ← eg, ← er .0, ← er .1, ← en, ← ec, eq-eqb n 0 z, ← em .0, ← em .1) (refl, refl, refl)

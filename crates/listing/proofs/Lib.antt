@@ -1,0 +1,4 @@
+pub mod BookLaws
+pub mod ProgressLaws
+pub mod ListingLaws
+pub mod RoomLaws

@@ -1,0 +1,117 @@
+-- Lines read and run one after the other. Assumes nothing.
+use Prim.Native.Nat.{ℕ, _+_, _-_, _≤_, _<_}
+use mathlib.Core.Bool.{Bool, true, false, _&&_}
+use mathlib.Core.Path.{_≡_, refl, sym, ap, _∙_}
+use mathlib.Core.List.{List, [], _∷_, _++_, append-nil, append-assoc}
+use native.Mathlib.Decide.{decLt}
+use native.Mathlib.Omega.{arith}
+use lib.Dec.{ltb}
+use lib.ListN.{length, take, drop, replicate}
+use lib.Seq.{take-all}
+use borrow.Author.Tests.{eq-eqb, ne-eqb, ltb-false}
+use Rattle.cycle.specs.declared.State.{State}
+use Rattle.text.specs.Bytes.{Wrote}
+use Rattle.text.specs.Parts.{linesOf, partEnd}
+use Rattle.text.proofs.BytesLaws.{join, wrote-same, wrote-none}
+use Rattle.text.proofs.PartsLaws.{part-from, part-within, cut-more, lines-none, lines-last}
+use Rattle.table.specs.declared.Op.{Op}
+use Rattle.table.specs.declared.Line.{Line}
+use Rattle.table.specs.declared.Row.{Row}
+use Rattle.table.specs.Line.{lineOf}
+use Rattle.table.specs.Row.{rowText, badLine, refusedWith}
+use Rattle.listing.specs.declared.Ran.{Ran}
+use Rattle.listing.specs.declared.Progress.{Progress}
+use Rattle.stepper.specs.Start.{startState, emptyStore}
+use Rattle.listing.specs.Book.{Book, startBook, ranOf, storeAfter, entriesAfter, rowOf}
+use Rattle.listing.specs.Listing.{lineText, linesText}
+use Rattle.listing.specs.Progress.{restOf, Advance}
+use Rattle.listing.proofs.BookLaws.{Runs}
+
+abbrev bookOf : State → List ℕ → List ℕ → Book
+bookOf s store tally = record { state = s; store = store; tally = tally }
+
+-- a line, and those after it
+pub lines-next : (input : List ℕ) (at : ℕ) → at < length input
+    → linesOf (drop at input) ≡ take (partEnd 10 input at - at) (drop at input) ∷ linesOf (drop (partEnd 10 input at + 1) input)
+lines-next input at h = go (decLt (partEnd 10 input at) (length input))
+  where
+    go : Dec (partEnd 10 input at < length input)
+        → linesOf (drop at input) ≡ take (partEnd 10 input at - at) (drop at input) ∷ linesOf (drop (partEnd 10 input at + 1) input)
+    go (yes l) = cut-more 10 input at [] l
+    go (no l) =
+        let e : partEnd 10 input at ≡ length input = omega (arith, part-within 10 input at (omega arith)) in
+        lines-last input at h e
+        ∙ rw (lines-none input (partEnd 10 input at + 1) (omega arith), take-all (partEnd 10 input at - at) (drop at input) (omega (arith, lib.ListN.length-drop at input)))
+
+-- where a line ends
+pub line-bounds : (input : List ℕ) (at end : ℕ) → end ≡ partEnd 10 input at → at < length input → (at ≤ end) × (end ≤ length input)
+line-bounds input at end e h = rw e (part-from 10 input at, part-within 10 input at (omega arith))
+
+-- ---- one line
+module _ (input : List ℕ) (limit : ℕ) (p : Progress) (store tally page : List ℕ) (going : p .going ≡ true) (within : p .next < length input) (end : ℕ)
+    (ee : end ≡ partEnd 10 input (p .next)) (line : Line) (el : line ≡ lineOf (take (end - p .next) (drop (p .next) input))) where
+  -- what is to be written goes by the line
+  by-line : restOf input limit p store tally
+      ≡ lineText limit (p .cycle) (bookOf (p .state) store tally) line (λ next. linesText limit (p .cycle + 1) next (linesOf (drop (end + 1) input)))
+  by-line = rw (going, lines-next input (p .next) within, ← ee, ← el)
+
+  -- it is bad
+  pub bad : line ≡ Line.Bad → (q : Progress) → q .going ≡ false → (page′ : List ℕ) → Wrote page (p .place) (badLine (p .cycle + 3)) page′ (q .place)
+      → Advance input limit p store tally page q store tally page′
+  bad b q shut page′ w = record {
+    text = badLine (p .cycle + 3);
+    wrote = w;
+    rest = by-line ∙ rw (b, shut) (sym (append-nil (badLine (p .cycle + 3))));
+  }
+
+  module _ (op : Op) (price want : ℕ) (eo : line ≡ Line.Run op price want) (ran : Ran) (store′ tally′ : List ℕ)
+      (er : Runs limit op price want (p .state) store tally ran store′ tally′) where
+    -- its cycle is refused
+    pub refused : (ran .number ≡ 0 → ⊥) → (q : Progress) → q .going ≡ false → (page′ : List ℕ) → Wrote page (p .place) (refusedWith (ran .number)) page′ (q .place)
+        → Advance input limit p store tally page q store′ tally′ page′
+    refused t q shut page′ w = record {
+      text = refusedWith (ran .number);
+      wrote = w;
+      rest = by-line ∙ rw (eo, ← er .0, ne-eqb (ran .number) 0 t, shut) (sym (append-nil (refusedWith (ran .number))));
+    }
+
+    -- it has its row
+    pub row : ran .number ≡ 0 → (r : Row) → r ≡ rowOf (p .cycle) op (ran .charge) (bookOf (ran .state) store′ tally′)
+        → (q : Progress) → q .going ≡ true → q .state ≡ ran .state → q .next ≡ end + 1 → q .cycle ≡ p .cycle + 1
+        → (page′ : List ℕ) → Wrote page (p .place) (rowText r) page′ (q .place)
+        → Advance input limit p store tally page q store′ tally′ page′
+    row z r e q goes es en ec page′ w = record {
+      text = rowText r;
+      wrote = w;
+      rest = by-line ∙ rw (eo, ← er .0, eq-eqb (ran .number) 0 z, ← er .1, ← er .2, ← e, goes, es, en, ec);
+    }
+
+-- ---- several lines
+module _ (input : List ℕ) (limit : ℕ) (p : Progress) (store tally page : List ℕ) where
+  -- nothing is written yet
+  pub none : p .place ≤ length page → Advance input limit p store tally page p store tally page
+  none h = record { text = []; wrote = wrote-none page (p .place) h; rest = refl }
+
+  module _ (q : Progress) (store′ tally′ page′ : List ℕ) (first : Advance input limit p store tally page q store′ tally′ page′) where
+    -- one line more
+    pub more : (r : Progress) (store″ tally″ page″ : List ℕ) → Advance input limit q store′ tally′ page′ r store″ tally″ page″
+        → Advance input limit p store tally page r store″ tally″ page″
+    more r store″ tally″ page″ later = record {
+      text = first .text ++ later .text;
+      wrote = join page (p .place) (first .text) (later .text) (first .wrote) (later .wrote);
+      rest = first .rest ∙ rw (later .rest) (sym (append-assoc (first .text) (later .text) (restOf input limit r store″ tally″)));
+    }
+
+    -- no line more
+    pub all : (q .going && ltb (q .next) (length input)) ≡ false → Wrote page (p .place) (restOf input limit p store tally) page′ (q .place)
+    all e = wrote-same page (p .place) {a = first .text} {b = restOf input limit p store tally} (first .rest ∙ rw (over (q .going) refl) (append-nil (first .text))) (first .wrote)
+      where
+        over : (b : Bool) → q .going ≡ b → restOf input limit q store′ tally′ ≡ []
+        over false k = rw k
+        over true k = rw (k, lines-none input (q .next) (ltb-false (q .next) (length input) (sym (ap (λ (x : Bool). x && ltb (q .next) (length input)) k) ∙ e)))
+
+-- ---- all lines, from the start
+pub begun : (input : List ℕ) (limit ergs next place : ℕ) (s : State) → s ≡ startState ergs 0
+    → linesText limit 1 (startBook ergs) (linesOf (drop next input))
+    ≡ restOf input limit (record { state = s; next = next; place = place; cycle = 1; going = true }) (emptyStore 16) (replicate 17 0)
+begun input limit ergs next place s e = rw e

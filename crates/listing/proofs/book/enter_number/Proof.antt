@@ -1,0 +1,37 @@
+use Rattle.listing.proofs.BookLaws as laws
+use borrow.Author.Needs.{needs}
+use Rattle.listing.proofs.book.enter_number.Statement.{statement}
+use Rattle.listing.proofs.book.enter_number.Tie as tie
+
+enter-requires : tie.Need-enter-requires
+enter-requires c κs = search needs
+
+enum-told : tie.Need-enum-told
+enum-told c = search needs
+
+enum-known-answer : tie.Need-enum-known-answer
+enum-known-answer c = search needs
+
+same-length : tie.Need-same-length
+same-length c = search needs
+
+returns : tie.Need-returns
+returns c = let a = c .before .before .before .before .before .before .before .args in let e = c .before .before .before .before .enter .ensures in (laws.entered (a .tally .now) (a .limit) (a .before) (a .after) (a .charge) (e .0) (c .enum-told .given .1), e .1)
+
+same-length-2 : tie.Need-same-length-2
+same-length-2 c = search needs
+
+returns-2 : tie.Need-returns-2
+returns-2 c = let a = c .before .before .before .before .before .before .before .before .args in let e = c .before .before .before .before .before .enter .ensures in (laws.not-entered (a .tally .now) (a .limit) (a .before) (a .after) (a .charge) (e .0) (c .before .answer .given .1), e .1)
+
+pub enter-number-spec : {M : Type 1} → statement M
+enter-number-spec =
+    tie.close
+    (tie.spec
+    enter-requires
+    enum-told
+    enum-known-answer
+    same-length
+    returns
+    same-length-2
+    returns-2)

@@ -1,0 +1,17 @@
+use Rattle.listing.specs.Book.{rowOf}
+use borrow.Author.Needs.{needs}
+use Rattle.listing.proofs.book.row_of.Statement.{statement}
+use Rattle.listing.proofs.book.row_of.Tie as tie
+
+total-of-requires : tie.Need-total-of-requires
+total-of-requires c κs = search needs
+
+own-of-requires : tie.Need-own-of-requires
+own-of-requires c κs = search needs
+
+returns : tie.Need-returns
+unfolding rowOf
+returns c = rw (c .own-of .ensures, c .before .total-of .ensures)
+
+pub row-of-spec : {M : Type 1} → statement M
+row-of-spec = tie.close (tie.spec total-of-requires own-of-requires returns)
