@@ -5,12 +5,11 @@ use mathlib.Core.Path.{_≡_, refl, sym, ap, _∙_}
 use mathlib.Core.List.{List, [], _∷_, _++_}
 use native.Mathlib.Omega.{arith}
 use lib.Dec.{eqb, ltb}
-use lib.ListN.{length, drop, getD, length-append}
-use lib.Seq.{sets}
+use lib.ListN.{length, take, drop, getD, length-append}
 use borrow.Author.Tests.{ltb-false, lt-ltb, le-ltb}
 use Rattle.text.specs.Bytes.{bytesOf, sameBytes, Wrote}
 use Rattle.text.specs.Parts.{onto, cut, linesOf}
-use Rattle.text.proofs.BytesLaws.{join, wrote-same}
+use Rattle.text.proofs.BytesLaws.{join, wrote-same, whole}
 use Rattle.table.specs.declared.Op.{Op}
 use Rattle.table.specs.declared.Line.{Line}
 use Rattle.table.specs.declared.Start.{Start}
@@ -98,17 +97,21 @@ fits input = go (ltb 65536 (length input)) refl
         omega (arith, length-append namesLine (firstOn (linesOf input)), first-size (linesOf input), size-cut input, ltb-false 65536 (length input) e)
 
 -- ---- the whole listing on its page
+-- the page begins with it, and the rest is as it was
+abbrev Listed : List ℕ → List ℕ → List ℕ → ℕ → Type 0
+Listed input page after r = (r ≡ length (listingOf input)) × (take r after ≡ listingOf input) × (drop r after ≡ drop r page)
+
 module _ (input page : List ℕ) (room : length page ≡ 1310848) {p1 : List ℕ} {r1 : ℕ} (names : Wrote page 0 namesLine p1 r1) {after : List ℕ} {r : ℕ} where
-  whole : (text : List ℕ) → listingOf input ≡ namesLine ++ text → Wrote p1 r1 text after r
-      → (r ≡ length (listingOf input)) × (after ≡ sets page 0 (listingOf input))
-  whole text e w =
+  listed : (text : List ℕ) → listingOf input ≡ namesLine ++ text → Wrote p1 r1 text after r → Listed input page after r
+  listed text e w =
       let all = wrote-same page 0 e (join page 0 namesLine text names w) in
-      (omega (arith, all .0, fits input), all .1)
+      let n : r ≡ length (listingOf input) = omega (arith, all .0, fits input) in
+      (n, rw (n, all .1) (whole page (listingOf input) (omega (arith, fits input)) .0), rw (n, all .1) (whole page (listingOf input) (omega (arith, fits input)) .1))
 
-  pub long : 65536 < length input → Wrote p1 r1 (badLine 0) after r → (r ≡ length (listingOf input)) × (after ≡ sets page 0 (listingOf input))
+  pub long : 65536 < length input → Wrote p1 r1 (badLine 0) after r → Listed input page after r
   unfolding listingOf
-  long h = whole (badLine 0) (rw (lt-ltb 65536 (length input) h))
+  long h = listed (badLine 0) (rw (lt-ltb 65536 (length input) h))
 
-  pub short : length input ≤ 65536 → Wrote p1 r1 (firstOn (linesOf input)) after r → (r ≡ length (listingOf input)) × (after ≡ sets page 0 (listingOf input))
+  pub short : length input ≤ 65536 → Wrote p1 r1 (firstOn (linesOf input)) after r → Listed input page after r
   unfolding listingOf
-  short h = whole (firstOn (linesOf input)) (rw (le-ltb 65536 (length input) h))
+  short h = listed (firstOn (linesOf input)) (rw (le-ltb 65536 (length input) h))

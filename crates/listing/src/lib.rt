@@ -2,8 +2,7 @@
 ghost use mathlib.Core.Path.{_≡_};
 ghost use mathlib.Core.Bool.{true};
 ghost use Prim.Native.Nat.{_+_, _≤_, _<_};
-ghost use lib.ListN.{length, drop};
-ghost use lib.Seq.{sets};
+ghost use lib.ListN.{length, take, drop};
 ghost use Rattle.text.specs.Bytes.{Wrote};
 ghost use Rattle.text.specs.Parts.{linesOf};
 ghost use Rattle.listing.specs.Book.{startBook};
@@ -173,7 +172,9 @@ fn from_first(input: &[u8], page: &mut [u8], place: usize) -> usize
 
 // What nearbook prints for an input, written from the front of the page, which has room for all of it. The answer is its length.
 pub fn listing(input: &[u8], page: &mut [u8; ROOM]) -> usize
-    ensures { λ r. ⌜ (r ≡ length (listingOf (now (input .entry)))) × (now (page .exit) ≡ sets (now (page .entry)) 0 (listingOf (now (input .entry)))) ⌝ }
+    ensures { λ r. ⌜ (r ≡ length (listingOf (now (input .entry))))
+        × (take r (now (page .exit)) ≡ listingOf (now (input .entry)))
+        × (drop r (now (page .exit)) ≡ drop r (now (page .entry))) ⌝ }
 {
     let place = text::put_bytes(page, 0, b"cycle op charge depth held total own\n");
     if 65536 < input.len() {

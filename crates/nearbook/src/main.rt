@@ -1,0 +1,14 @@
+// Reads a list from standard input, and prints its listing. Document 01: "Program nearbook reads standard input, at most 65,536 bytes".
+use libc::STDIN_FILENO;
+use libc::STDOUT_FILENO;
+
+// One byte more than a list may have, so that one that is too long is seen.
+const MOST: usize = 65537;
+
+fn main() {
+    let mut input = [0u8; MOST];
+    let size = io::read_full(STDIN_FILENO, &mut input);
+    let mut page = [0u8; listing::ROOM];
+    let printed = listing::listing(&input[..size], &mut page);
+    io::write_all(STDOUT_FILENO, &page[..printed]);
+}
