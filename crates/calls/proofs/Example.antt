@@ -12,8 +12,7 @@ use lib.ListN.{take, drop}
 use Rattle.u256.specs.U256.{lowOf}
 use Rattle.frame.specs.Fields.{withErgs, withSp, withPc}
 use Rattle.frame.specs.Kernel.{kernelMode}
-use Rattle.frame.specs.Row.{frameOf}
-use Rattle.frame.specs.Store.{rowAt, savedStore, readOf}
+use Rattle.frame.specs.Store.{savedStore, readOf, savedErgs}
 use Rattle.registers.specs.Registers.{emptyWord}
 use Rattle.signed.specs.Signed.{checkedOf, wordOf, signedOf}
 use Rattle.u256.specs.U256.{sumOf, differenceOf, isZero}
@@ -60,11 +59,6 @@ listing = line 1 0 6 0 ++ (line 3 0 25 300 ++ (line 1 0 6 0 ++ (line 4 0 5 0 ++ 
 abbrev pub start : State
 start = startState 1000 0
 
--- ergs of the rows saved
-abbrev pub saved : ℕ → List ℕ → ℕ
-saved zero store = 0
-saved (suc i) store = frameOf (rowAt store i) .«ergs_remaining» + saved i store
-
 -- of a finished decode the charge; of a finished execute the depth, the ergs of the frame that is current then, and those of all frames
 abbrev pub figure : Event core → List ℕ
 figure (called (fetch x) s store) = []
@@ -72,7 +66,7 @@ figure (called (decode x) s store) = chargeOf core x s ∷ []
 figure (called (operands x) s store) = []
 figure (called (execute x) s store) =
     let o = executeOutcome x s store in
-    o .state .depth ∷ o .state .current .«ergs_remaining» ∷ (o .state .current .«ergs_remaining» + saved (o .state .depth) (o .store)) ∷ []
+    o .state .depth ∷ o .state .current .«ergs_remaining» ∷ (o .state .current .«ergs_remaining» + savedErgs (o .state .depth) (o .store)) ∷ []
 
 abbrev pub joined : List (List ℕ) → List ℕ
 joined [] = []

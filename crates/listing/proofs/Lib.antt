@@ -2,3 +2,4 @@ pub mod BookLaws
 pub mod ProgressLaws
 pub mod ListingLaws
 pub mod RoomLaws
+pub mod Example
