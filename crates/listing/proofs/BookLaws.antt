@@ -10,7 +10,7 @@ use Rattle.stepper.specs.declared.Input.{Input}
 use Rattle.stepper.specs.declared.Cycled.{Cycled}
 use Rattle.stepper.specs.Cycle.{cycleOf, cycleStore, cycleNumber, cycleCharge}
 use Rattle.tally.specs.declared.EnterAnswer.{EnterAnswer}
-use Rattle.tally.specs.Tally.{enterRefusal, enterAnswer, enterOf, tallyAfter}
+use Rattle.tally.specs.Tally.{enterRefusal, enterOf, tallyAfter}
 use Rattle.table.specs.declared.Op.{Op}
 use Rattle.listing.specs.declared.Ran.{Ran}
 use Rattle.listing.specs.Book.{Book, inputOf, requestedState, ranOf, storeAfter, entriesAfter}

@@ -22,7 +22,7 @@ use Rattle.table.specs.Row.{rowText, badLine, refusedWith}
 use Rattle.listing.specs.declared.Ran.{Ran}
 use Rattle.listing.specs.declared.Progress.{Progress}
 use Rattle.stepper.specs.Start.{startState, emptyStore}
-use Rattle.listing.specs.Book.{Book, startBook, ranOf, storeAfter, entriesAfter, rowOf}
+use Rattle.listing.specs.Book.{Book, startBook, rowOf}
 use Rattle.listing.specs.Listing.{lineText, linesText}
 use Rattle.listing.specs.Progress.{restOf, Advance}
 use Rattle.listing.proofs.BookLaws.{Runs}

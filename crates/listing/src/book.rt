@@ -3,7 +3,7 @@ ghost use mathlib.Core.Path.{_≡_};
 ghost use Prim.Native.Nat.{_+_};
 ghost use lib.ListN.{getD};
 ghost use Rattle.frame.specs.Store.{savedErgs};
-ghost use Rattle.listing.specs.Book.{recordOf, inputOf, requestedState, ranOf, storeAfter, entriesAfter, rowOf, Book};
+ghost use Rattle.listing.specs.Book.{recordOf, inputOf, requestedState, ranOf, storeAfter, entriesAfter, rowOf};
 ghost use Rattle.tally.specs.Tally.{enterRefusal, tallyAfter};
 use crate::Ran;
 use cycle::State;

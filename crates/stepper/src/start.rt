@@ -1,8 +1,6 @@
 // States and records that are 0 or no but for what is given: where a listing starts, and the edges.
 ghost use mathlib.Core.Path.{_≡_};
 ghost use mathlib.Core.Bool.{false};
-ghost use lib.ListN.{replicate};
-ghost use Rattle.registers.specs.Registers.{emptyWord};
 ghost use Rattle.stepper.specs.Start as start;
 use cycle::Kept;
 use cycle::State;

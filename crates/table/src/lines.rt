@@ -1,6 +1,5 @@
 // What a line of the input says.
 ghost use mathlib.Core.Path.{_≡_};
-ghost use mathlib.Core.Bool.{_&&_};
 ghost use Rattle.table.specs.Line.{opOf, runLine, lineOf, startWith, startOf};
 use crate::Line;
 use crate::Op;

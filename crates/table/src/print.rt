@@ -1,5 +1,4 @@
 // What the listing prints, written on a page.
-ghost use mathlib.Core.Path.{_≡_};
 ghost use Rattle.text.specs.Bytes.{Wrote};
 ghost use Rattle.table.specs.Line.{nameOf};
 ghost use Rattle.table.specs.Row.{field, rowText, badLine, refusedWith};

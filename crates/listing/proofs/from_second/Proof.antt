@@ -1,15 +1,13 @@
-use mathlib.Core.Path.{refl}
 use native.Mathlib.Omega.{arith}
-use borrow.Author.Tests.{not-true, not-false}
 use Rattle.text.proofs.BytesLaws.{wrote-same}
-use Rattle.text.proofs.PartsLaws.{part-from, part-within}
+use Rattle.text.proofs.PartsLaws.{part-within}
 use Rattle.listing.proofs.ListingLaws as laws
 use borrow.Author.Needs.{needs}
 use Rattle.listing.proofs.from_second.Statement.{statement}
 use Rattle.listing.proofs.from_second.Tie as tie
 
 part-end-requires : tie.Need-part-end-requires
-part-end-requires c κs = search needs
+part-end-requires c κs = tt
 
 sub-start-of : tie.Need-sub-start-of
 sub-start-of c = search needs
@@ -23,7 +21,7 @@ part-start-of-end c =
     omega (arith, part-within 10 (p3 .args .input .now) (p3 .args .at) (p3 .pre .1), c .part-end .ensures)
 
 start-of-requires : tie.Need-start-of-requires
-start-of-requires c κs = search needs
+start-of-requires c κs = tt
 
 enum-known-start : tie.Need-enum-known-start
 enum-known-start c = search needs
@@ -32,7 +30,7 @@ enum-told : tie.Need-enum-told
 enum-told c = search needs
 
 put-bad-line-requires : tie.Need-put-bad-line-requires
-put-bad-line-requires c κs = search needs
+put-bad-line-requires c κs = tt
 
 same-length : tie.Need-same-length
 same-length c = search needs

@@ -1,15 +1,14 @@
-use mathlib.Core.Path.{refl}
 use native.Mathlib.Omega.{arith}
 use borrow.Author.Tests.{not-true, not-false}
 use Rattle.text.proofs.BytesLaws.{wrote-same}
-use Rattle.text.proofs.PartsLaws.{part-from, part-within}
+use Rattle.text.proofs.PartsLaws.{part-within}
 use Rattle.listing.proofs.ListingLaws as laws
 use borrow.Author.Needs.{needs}
 use Rattle.listing.proofs.from_third.Statement.{statement}
 use Rattle.listing.proofs.from_third.Tie as tie
 
 part-end-requires : tie.Need-part-end-requires
-part-end-requires c κs = search needs
+part-end-requires c κs = tt
 
 sub-same-bytes : tie.Need-sub-same-bytes
 sub-same-bytes c = search needs
@@ -26,10 +25,10 @@ slice-aggregate-same-bytes : tie.Need-slice-aggregate-same-bytes
 slice-aggregate-same-bytes c = search needs
 
 same-bytes-requires : tie.Need-same-bytes-requires
-same-bytes-requires c κs = search needs
+same-bytes-requires c κs = tt
 
 put-bad-line-requires : tie.Need-put-bad-line-requires
-put-bad-line-requires c κs = search needs
+put-bad-line-requires c κs = tt
 
 same-length : tie.Need-same-length
 same-length c = search needs

@@ -6,7 +6,7 @@ use Rattle.listing.proofs.step.Statement.{statement}
 use Rattle.listing.proofs.step.Tie as tie
 
 part-end-requires : tie.Need-part-end-requires
-part-end-requires c κs = search needs
+part-end-requires c κs = tt
 
 sub-line-of : tie.Need-sub-line-of
 sub-line-of c = search needs
@@ -20,7 +20,7 @@ part-line-of-end c =
     omega (arith, laws.line-bounds (p6 .args .input .now) (p6 .args .p .next) _ (c .part-end .ensures) (p6 .pre .1))
 
 line-of-requires : tie.Need-line-of-requires
-line-of-requires c κs = search needs
+line-of-requires c κs = tt
 
 enum-known-line : tie.Need-enum-known-line
 enum-known-line c = search needs
@@ -32,7 +32,7 @@ add-put-bad-line : tie.Need-add-put-bad-line
 add-put-bad-line c = search needs
 
 put-bad-line-requires : tie.Need-put-bad-line-requires
-put-bad-line-requires c κs = search needs
+put-bad-line-requires c κs = tt
 
 add-t28 : tie.Need-add-t28
 add-t28 c =
@@ -53,10 +53,10 @@ returns c =
     (laws.bad (p14 .args .input .now) (p14 .args .limit) (p14 .args .p) (p14 .args .store .now) (p14 .args .tally .now) (p14 .args .page .now) (p14 .pre .0) (p14 .pre .1) _ (p8 .part-end .ensures) _ (p6 .line-of .ensures) (p4 .enum-told .given .1) _ refl _ (p2 .put-bad-line .ensures), omega (arith, laws.line-bounds (p14 .args .input .now) (p14 .args .p .next) _ (p8 .part-end .ensures) (p14 .pre .1)), omega (arith, laws.line-bounds (p14 .args .input .now) (p14 .args .p .next) _ (p8 .part-end .ensures) (p14 .pre .1)))
 
 run-line-requires : tie.Need-run-line-requires
-run-line-requires c κs = search needs
+run-line-requires c κs = tt
 
 put-refused-requires : tie.Need-put-refused-requires
-put-refused-requires c κs = search needs
+put-refused-requires c κs = tt
 
 add-t36 : tie.Need-add-t36
 add-t36 c =
@@ -85,10 +85,10 @@ returns-2 c =
     (laws.refused (p25 .args .input .now) (p25 .args .limit) (p25 .args .p) (p25 .args .store .now) (p25 .args .tally .now) (p25 .args .page .now) (p25 .pre .0) (p25 .pre .1) _ (p19 .part-end .ensures) _ (p17 .line-of .ensures) _ _ _ (p15 .line .given .1) _ _ _ (p11 .run-line .ensures) (p4 .if1 .taken) _ refl _ (p2 .put-refused .ensures), omega (arith, laws.line-bounds (p25 .args .input .now) (p25 .args .p .next) _ (p19 .part-end .ensures) (p25 .pre .1)), omega (arith, laws.line-bounds (p25 .args .input .now) (p25 .args .p .next) _ (p19 .part-end .ensures) (p25 .pre .1)))
 
 row-of-requires : tie.Need-row-of-requires
-row-of-requires c κs = search needs
+row-of-requires c κs = tt
 
 put-row-requires : tie.Need-put-row-requires
-put-row-requires c κs = search needs
+put-row-requires c κs = tt
 
 add-t22 : tie.Need-add-t22
 add-t22 c =

@@ -4,7 +4,7 @@ use Rattle.listing.proofs.book.enter_number.Statement.{statement}
 use Rattle.listing.proofs.book.enter_number.Tie as tie
 
 enter-requires : tie.Need-enter-requires
-enter-requires c κs = search needs
+enter-requires c κs = tt
 
 enum-told : tie.Need-enum-told
 enum-told c = search needs

@@ -4,16 +4,16 @@ use Rattle.listing.proofs.book.input_of.Statement.{statement}
 use Rattle.listing.proofs.book.input_of.Tie as tie
 
 empty-word-requires : tie.Need-empty-word-requires
-empty-word-requires c κs = search needs
+empty-word-requires c κs = tt
 
 settings-of-requires : tie.Need-settings-of-requires
-settings-of-requires c κs = search needs
+settings-of-requires c κs = tt
 
 record-of-requires : tie.Need-record-of-requires
-record-of-requires c κs = search needs
+record-of-requires c κs = tt
 
 records-of-requires : tie.Need-records-of-requires
-records-of-requires c κs = search needs
+records-of-requires c κs = tt
 
 returns : tie.Need-returns
 unfolding inputOf

@@ -6,31 +6,31 @@ enum-told : tie.Need-enum-told
 enum-told c = search needs
 
 instruction-requires : tie.Need-instruction-requires
-instruction-requires c κs = search needs
+instruction-requires c κs = tt
 
 enum-told-2 : tie.Need-enum-told-2
 enum-told-2 c = search needs
 
 instruction-requires-2 : tie.Need-instruction-requires-2
-instruction-requires-2 c κs = search needs
+instruction-requires-2 c κs = tt
 
 enum-told-3 : tie.Need-enum-told-3
 enum-told-3 c = search needs
 
 instruction-requires-3 : tie.Need-instruction-requires-3
-instruction-requires-3 c κs = search needs
+instruction-requires-3 c κs = tt
 
 enum-told-4 : tie.Need-enum-told-4
 enum-told-4 c = search needs
 
 instruction-requires-4 : tie.Need-instruction-requires-4
-instruction-requires-4 c κs = search needs
+instruction-requires-4 c κs = tt
 
 enum-told-5 : tie.Need-enum-told-5
 enum-told-5 c = search needs
 
 instruction-requires-5 : tie.Need-instruction-requires-5
-instruction-requires-5 c κs = search needs
+instruction-requires-5 c κs = tt
 
 returns : tie.Need-returns
 returns c = rw (c .before .enum-told .given .1) (c .instruction .ensures)

@@ -4,7 +4,7 @@ use Rattle.listing.proofs.book.requested.Statement.{statement}
 use Rattle.listing.proofs.book.requested.Tie as tie
 
 word-requires : tie.Need-word-requires
-word-requires c κs = search needs
+word-requires c κs = tt
 
 element-set-from-word : tie.Need-element-set-from-word
 element-set-from-word c = search needs

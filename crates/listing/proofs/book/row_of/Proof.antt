@@ -4,10 +4,10 @@ use Rattle.listing.proofs.book.row_of.Statement.{statement}
 use Rattle.listing.proofs.book.row_of.Tie as tie
 
 total-of-requires : tie.Need-total-of-requires
-total-of-requires c κs = search needs
+total-of-requires c κs = tt
 
 own-of-requires : tie.Need-own-of-requires
-own-of-requires c κs = search needs
+own-of-requires c κs = tt
 
 returns : tie.Need-returns
 unfolding rowOf

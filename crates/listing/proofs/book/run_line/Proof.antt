@@ -4,19 +4,19 @@ use Rattle.listing.proofs.book.run_line.Statement.{statement}
 use Rattle.listing.proofs.book.run_line.Tie as tie
 
 input-of-requires : tie.Need-input-of-requires
-input-of-requires c κs = search needs
+input-of-requires c κs = tt
 
 requested-requires : tie.Need-requested-requires
-requested-requires c κs = search needs
+requested-requires c κs = tt
 
 cycle-requires : tie.Need-cycle-requires
-cycle-requires c κs = search needs
+cycle-requires c κs = tt
 
 cycle-number-requires : tie.Need-cycle-number-requires
-cycle-number-requires c κs = search needs
+cycle-number-requires c κs = tt
 
 cycle-charge-requires : tie.Need-cycle-charge-requires
-cycle-charge-requires c κs = search needs
+cycle-charge-requires c κs = tt
 
 same-length : tie.Need-same-length
 same-length c = search needs
@@ -32,7 +32,7 @@ returns c =
     laws.refused (p12 .args .limit) (p12 .args .op) (p12 .args .price) (p12 .args .want) (p12 .args .state) (p12 .args .store .now) (p12 .args .tally .now) _ (p9 .input-of .ensures) _ (p8 .requested .ensures) _ _ (p6 .cycle .ensures) _ (p2 .cycle-number .ensures) _ (p1 .cycle-charge .ensures) (c .if1 .taken)
 
 enter-number-requires : tie.Need-enter-number-requires
-enter-number-requires c κs = search needs
+enter-number-requires c κs = tt
 
 same-length-2 : tie.Need-same-length-2
 same-length-2 c = search needs

@@ -1,4 +1,3 @@
-use borrow.Author.Needs.{needs}
 use Rattle.stepper.proofs.start.far_frame.Statement.{statement}
 use Rattle.stepper.proofs.start.far_frame.Tie as tie
 

@@ -1,4 +1,3 @@
-use borrow.Author.Needs.{needs}
 use Rattle.stepper.proofs.start.records_of.Statement.{statement}
 use Rattle.stepper.proofs.start.records_of.Tie as tie
 

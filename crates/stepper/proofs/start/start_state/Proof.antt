@@ -1,4 +1,3 @@
-use borrow.Author.Needs.{needs}
 use Rattle.stepper.proofs.start.start_state.Statement.{statement}
 use Rattle.stepper.proofs.start.start_state.Tie as tie
 
