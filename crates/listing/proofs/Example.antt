@@ -28,7 +28,7 @@ use Rattle.tally.specs.Tally.{tallyAfter}
 use Rattle.text.specs.Bytes.{bytesOf}
 use Rattle.text.specs.Number.{numberOf}
 use Rattle.table.specs.Line.{opOf, lineOf, startOf}
-use Rattle.listing.specs.Book.{inputOf, requestedState, ranOf, storeAfter, entriesAfter, rowOf}
+use Rattle.book.specs.Book.{inputOf, requestedState, ranOf, storeAfter, entriesAfter, rowOf}
 use Rattle.listing.specs.Listing.{thirdOn, secondOn, firstOn, listingOf}
 
 pub example : listingOf (bytesOf "ergs limit\n1000 4\nop price want\nadd 6 0\ncall 25 300\nadd 6 0\nok 5 0\ncall 25 0\nrevert 5 0\n")

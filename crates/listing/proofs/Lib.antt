@@ -1,4 +1,3 @@
-pub mod BookLaws
 pub mod ProgressLaws
 pub mod ListingLaws
 pub mod RoomLaws

@@ -13,7 +13,7 @@ use Rattle.text.proofs.PartsLaws.{part-is, lines-first, lines-rest}
 use Rattle.table.specs.declared.Start.{Start}
 use Rattle.table.specs.Line.{startOf}
 use Rattle.table.specs.Row.{badLine}
-use Rattle.listing.specs.Book.{startBook}
+use Rattle.book.specs.Book.{startBook}
 use Rattle.listing.specs.Listing.{linesText, thirdOn, secondOn, firstOn}
 
 -- past the end nothing is left

@@ -19,13 +19,13 @@ use Rattle.table.specs.declared.Line.{Line}
 use Rattle.table.specs.declared.Row.{Row}
 use Rattle.table.specs.Line.{lineOf}
 use Rattle.table.specs.Row.{rowText, badLine, refusedWith}
-use Rattle.listing.specs.declared.Ran.{Ran}
+use Rattle.book.specs.declared.Ran.{Ran}
 use Rattle.listing.specs.declared.Progress.{Progress}
 use Rattle.stepper.specs.Start.{startState, emptyStore}
-use Rattle.listing.specs.Book.{Book, startBook, rowOf}
+use Rattle.book.specs.Book.{Book, startBook, rowOf}
 use Rattle.listing.specs.Listing.{lineText, linesText}
 use Rattle.listing.specs.Progress.{restOf, Advance}
-use Rattle.listing.proofs.BookLaws.{Runs}
+use Rattle.book.proofs.BookLaws.{Runs}
 
 abbrev bookOf : State → List ℕ → List ℕ → Book
 bookOf s store tally = record { state = s; store = store; tally = tally }

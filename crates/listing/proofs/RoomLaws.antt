@@ -17,7 +17,7 @@ use Rattle.table.specs.Line.{lineOf, startOf}
 use Rattle.table.specs.Row.{rowText, badLine, refusedWith, namesLine}
 use Rattle.table.proofs.LineLaws.{run-length}
 use Rattle.table.proofs.RowLaws.{row-length, bad-length, refused-length}
-use Rattle.listing.specs.Book.{Book, startBook, ranOf, bookAfter, rowOf}
+use Rattle.book.specs.Book.{Book, startBook, ranOf, bookAfter, rowOf}
 use Rattle.listing.specs.Listing.{lineText, linesText, named, thirdOn, started, secondOn, firstOn, listingOf}
 
 -- the bytes of lines, with one for each line's end

@@ -11,7 +11,7 @@ use Rattle.table.specs.declared.Line.{Line}
 use Rattle.table.specs.declared.Start.{Start}
 use Rattle.table.specs.Line.{lineOf, startOf}
 use Rattle.table.specs.Row.{rowText, badLine, refusedWith, namesLine}
-use Rattle.listing.specs.Book.{Book, startBook, ranOf, bookAfter, rowOf}
+use Rattle.book.specs.Book.{Book, startBook, ranOf, bookAfter, rowOf}
 
 -- what a line prints, with what the lines after it print from the book that it leaves. Cycle n stands on line n + 3.
 abbrev pub lineText : ℕ → ℕ → Book → Line → (Book → List ℕ) → List ℕ

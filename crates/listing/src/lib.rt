@@ -5,25 +5,15 @@ ghost use Prim.Native.Nat.{_+_, _≤_, _<_};
 ghost use lib.ListN.{length, take, drop};
 ghost use Rattle.text.specs.Bytes.{Wrote};
 ghost use Rattle.text.specs.Parts.{linesOf};
-ghost use Rattle.listing.specs.Book.{startBook};
+ghost use Rattle.book.specs.Book.{startBook};
 ghost use Rattle.listing.specs.Listing.{linesText, thirdOn, secondOn, firstOn, listingOf};
 ghost use Rattle.listing.specs.Progress.{Advance, Counted};
-
-mod book;
-
 use cycle::State;
 use table::Line;
 use table::Start;
 
 // The longest listing has this room: at most 20 bytes are printed for each byte of the input.
 pub const ROOM: usize = 1310848;
-
-// What a line's cycle gives; the number is that of a refusal, or 0.
-pub struct Ran {
-    pub state: State,
-    pub number: u32,
-    pub charge: u32,
-}
 
 // How far a listing has come: the next line of the input, the place on the page, the number of the next cycle, and whether it goes on.
 pub struct Progress {

@@ -1,7 +1,7 @@
-use Rattle.listing.specs.Book.{requestedState}
+use Rattle.book.specs.Book.{requestedState}
 use borrow.Author.Needs.{needs}
-use Rattle.listing.proofs.book.requested.Statement.{statement}
-use Rattle.listing.proofs.book.requested.Tie as tie
+use Rattle.book.proofs.requested.Statement.{statement}
+use Rattle.book.proofs.requested.Tie as tie
 
 word-requires : tie.Need-word-requires
 word-requires c κs = tt

@@ -12,8 +12,8 @@ use Rattle.stepper.specs.Cycle.{cycleOf, cycleStore, cycleNumber, cycleCharge}
 use Rattle.tally.specs.declared.EnterAnswer.{EnterAnswer}
 use Rattle.tally.specs.Tally.{enterRefusal, enterOf, tallyAfter}
 use Rattle.table.specs.declared.Op.{Op}
-use Rattle.listing.specs.declared.Ran.{Ran}
-use Rattle.listing.specs.Book.{Book, inputOf, requestedState, ranOf, storeAfter, entriesAfter}
+use Rattle.book.specs.declared.Ran.{Ran}
+use Rattle.book.specs.Book.{Book, inputOf, requestedState, ranOf, storeAfter, entriesAfter}
 
 -- ---- the number of an entry's answer
 numberOf : EnterAnswer → ℕ

@@ -1,7 +1,7 @@
-use Rattle.listing.proofs.BookLaws as laws
+use Rattle.book.proofs.BookLaws as laws
 use borrow.Author.Needs.{needs}
-use Rattle.listing.proofs.book.run_line.Statement.{statement}
-use Rattle.listing.proofs.book.run_line.Tie as tie
+use Rattle.book.proofs.run_line.Statement.{statement}
+use Rattle.book.proofs.run_line.Tie as tie
 
 input-of-requires : tie.Need-input-of-requires
 input-of-requires c κs = tt

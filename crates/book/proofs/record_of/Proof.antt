@@ -1,6 +1,6 @@
 use borrow.Author.Needs.{needs}
-use Rattle.listing.proofs.book.record_of.Statement.{statement}
-use Rattle.listing.proofs.book.record_of.Tie as tie
+use Rattle.book.proofs.record_of.Statement.{statement}
+use Rattle.book.proofs.record_of.Tie as tie
 
 enum-told : tie.Need-enum-told
 enum-told c = search needs

@@ -15,7 +15,7 @@ use Rattle.stepper.specs.Start.{word, instruction, recordsOf, settingsOf, start
 use Rattle.stepper.specs.Cycle.{cycleOf, cycleStore, cycleNumber, cycleCharge}
 use Rattle.tally.specs.Tally.{enterRefusal, tallyAfter}
 use Rattle.table.specs.declared.Op.{Op}
-use Rattle.listing.specs.declared.Ran.{Ran}
+use Rattle.book.specs.declared.Ran.{Ran}
 use Rattle.table.specs.declared.Row.{Row}
 
 -- the machine state with what is lent to it

@@ -3,15 +3,21 @@ ghost use mathlib.Core.Path.{_≡_};
 ghost use Prim.Native.Nat.{_+_};
 ghost use lib.ListN.{getD};
 ghost use Rattle.frame.specs.Store.{savedErgs};
-ghost use Rattle.listing.specs.Book.{recordOf, inputOf, requestedState, ranOf, storeAfter, entriesAfter, rowOf};
+ghost use Rattle.book.specs.Book.{recordOf, inputOf, requestedState, ranOf, storeAfter, entriesAfter, rowOf};
 ghost use Rattle.tally.specs.Tally.{enterRefusal, tallyAfter};
-use crate::Ran;
 use cycle::State;
 use rules::Record;
 use stepper::Input;
 use table::Op;
 use table::Row;
 use tally::EnterAnswer;
+
+// What a line's cycle gives; the number is that of a refusal, or 0.
+pub struct Ran {
+    pub state: State,
+    pub number: u32,
+    pub charge: u32,
+}
 
 fn record_of(op: Op, price: u32) -> Record
     ensures { λ r. ⌜ r ≡ recordOf op price ⌝ }

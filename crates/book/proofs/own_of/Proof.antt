@@ -1,8 +1,8 @@
 use lib.ListN.{List·getD-eq-default}
 use mathlib.Core.Path.{sym}
 use borrow.Author.Needs.{needs}
-use Rattle.listing.proofs.book.own_of.Statement.{statement}
-use Rattle.listing.proofs.book.own_of.Tie as tie
+use Rattle.book.proofs.own_of.Statement.{statement}
+use Rattle.book.proofs.own_of.Tie as tie
 
 mul-result : tie.Need-mul-result
 mul-result c = search needs

@@ -1,7 +1,7 @@
-use Rattle.listing.specs.Book.{rowOf}
+use Rattle.book.specs.Book.{rowOf}
 use borrow.Author.Needs.{needs}
-use Rattle.listing.proofs.book.row_of.Statement.{statement}
-use Rattle.listing.proofs.book.row_of.Tie as tie
+use Rattle.book.proofs.row_of.Statement.{statement}
+use Rattle.book.proofs.row_of.Tie as tie
 
 total-of-requires : tie.Need-total-of-requires
 total-of-requires c κs = tt

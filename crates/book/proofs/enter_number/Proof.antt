@@ -1,7 +1,7 @@
-use Rattle.listing.proofs.BookLaws as laws
+use Rattle.book.proofs.BookLaws as laws
 use borrow.Author.Needs.{needs}
-use Rattle.listing.proofs.book.enter_number.Statement.{statement}
-use Rattle.listing.proofs.book.enter_number.Tie as tie
+use Rattle.book.proofs.enter_number.Statement.{statement}
+use Rattle.book.proofs.enter_number.Tie as tie
 
 enter-requires : tie.Need-enter-requires
 enter-requires c κs = tt
