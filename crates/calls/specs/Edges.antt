@@ -20,12 +20,12 @@ use Rattle.cycle.specs.declared.FetchAnswer.{FetchAnswer}
 use Rattle.cycle.specs.declared.Event.{Event}
 use Rattle.cycle.specs.declared.Executed.{Executed}
 use Rattle.cycle.specs.declared.ExecuteAnswer.{ExecuteAnswer}
-use Rattle.cycle.specs.Effects.{movedState}
+use Rattle.cycle.specs.Effects.{movedState, noRecord}
 use Rattle.cycle.specs.Fetch.{queryOf, fetchOf}
 use Rattle.cycle.specs.Decode.{decodeOf}
 use Rattle.cycle.specs.Operands.{operandsOf}
 use Rattle.cycle.specs.Execute.{executeOf, executeStore}
-use Rattle.stepper.specs.Start.{word, instruction, noInstruction, recordsOf, stateAt, settingsOf, emptyStore}
+use Rattle.stepper.specs.Start.{word, instruction, recordsOf, stateAt, settingsOf, emptyStore}
 
 pub record Edge : Type 0 where
   pub computed : List ℕ
@@ -41,7 +41,7 @@ decodes ergs price = figures (after .state) (after .answer)
   where
     after : Decoded
     after =
-        decodeOf (settingsOf 4 1) (recordsOf (instruction 1 0 0 0 0 0 0 0 0 price false)) (stateAt 1 (replicate 15 emptyWord) ergs 0 noInstruction)
+        decodeOf (settingsOf 4 1) (recordsOf (instruction 1 0 0 0 0 0 0 0 0 price false)) (stateAt 1 (replicate 15 emptyWord) ergs 0 noRecord)
         (emptyStore 4)
 
 -- a near call that requests so much, at this multiplier and so many ergs: the depth afterwards, what is given, and what is kept in the caller's row
@@ -103,7 +103,7 @@ steps pc =
     ++ (executeOf (settingsOf 4 1) emptyWord false (at 3) (emptyStore 4) .state .current .pc ∷ []))
   where
     at : ℕ → State
-    at stage = movedState (stateAt stage (replicate 15 emptyWord) 0 0 noInstruction) pc
+    at stage = movedState (stateAt stage (replicate 15 emptyWord) 0 0 noRecord) pc
 
 abbrev pub edges : List Edge
 edges =

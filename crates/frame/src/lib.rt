@@ -118,7 +118,7 @@ pub fn read_frame(store: &[u32], i: u32) -> ReadAnswer
     }
 }
 
-// The ergs of row i; a row that the store has not holds none.
+// The ergs of row i; a word that the store has not counts as 0.
 fn row_ergs(store: &[u32], i: u32) -> u32
     ensures { λ r. ⌜ r ≡ frameOf (rowAt (now (store .entry)) i) .«ergs_remaining» ⌝ }
 {
@@ -126,7 +126,7 @@ fn row_ergs(store: &[u32], i: u32) -> u32
     if at < store.len() { store[at] } else { 0 }
 }
 
-// The ergs of the first rows, as many as the depth.
+// The ergs of the first rows, as many as the depth; it looks at each of them, also past the store's end.
 pub fn saved_ergs(store: &[u32], depth: u32) -> u64
     ensures { λ r. ⌜ (r ≡ savedErgs depth (now (store .entry))) × (r ≤ depth * 4294967295) ⌝ }
 {

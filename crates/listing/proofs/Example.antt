@@ -28,10 +28,10 @@ use Rattle.tally.specs.Tally.{tallyAfter}
 use Rattle.text.specs.Bytes.{bytesOf}
 use Rattle.text.specs.Number.{numberOf}
 use Rattle.table.specs.Line.{opOf, lineOf, startOf}
-use Rattle.book.specs.Book.{inputOf, requestedState, ranOf, storeAfter, entriesAfter, rowOf}
+use Rattle.runs.specs.Run.{inputOf, requestedState, ranOf, storeAfter, entriesAfter, printedRow}
 use Rattle.listing.specs.Listing.{thirdOn, secondOn, firstOn, listingOf}
 
 pub example : listingOf (bytesOf "ergs limit\n1000 4\nop price want\nadd 6 0\ncall 25 300\nadd 6 0\nok 5 0\ncall 25 0\nrevert 5 0\n")
     ≡ bytesOf "cycle op charge depth held total own\n1 add 6 1 994 994 6\n2 call 25 2 300 969 0\n3 add 6 2 294 963 6\n4 ok 5 1 958 958 31\n5 call 25 2 933 933 0\n6 revert 5 1 928 928 56\n"
-unfolding listingOf firstOn secondOn thirdOn numberOf opOf lineOf startOf inputOf requestedState ranOf storeAfter entriesAfter rowOf cycleDone cycleOf cycleStore tallyAfter queryOf withErgs withSp withPc kernelMode readOf lowOf checkedOf wordOf signedOf sumOf differenceOf isZero codeBits badRecords errorFlags sourceAt destinationAt placesOf sourcesOf callerOf openedOf resumedWith resumedOf savedStore flagsAfter finishedState movedState writtenState switchedState fetchedState fetchDone fetchOf decodedState decodeDone decodeOf addressedState operandsDone operandsOf nopDone nopOf nearCallDone nearCallOf nearCallStore arithmeticDone arithmeticOf closeDone closeOf returnOf executeDone executeOf executeStore
+unfolding listingOf firstOn secondOn thirdOn numberOf opOf lineOf startOf inputOf requestedState ranOf storeAfter entriesAfter printedRow cycleDone cycleOf cycleStore tallyAfter queryOf withErgs withSp withPc kernelMode readOf lowOf checkedOf wordOf signedOf sumOf differenceOf isZero codeBits badRecords errorFlags sourceAt destinationAt placesOf sourcesOf callerOf openedOf resumedWith resumedOf savedStore flagsAfter finishedState movedState writtenState switchedState fetchedState fetchDone fetchOf decodedState decodeDone decodeOf addressedState operandsDone operandsOf nopDone nopOf nearCallDone nearCallOf nearCallStore arithmeticDone arithmeticOf closeDone closeOf returnOf executeDone executeOf executeStore
 example = refl

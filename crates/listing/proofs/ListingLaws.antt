@@ -13,7 +13,7 @@ use Rattle.text.proofs.PartsLaws.{part-is, lines-first, lines-rest}
 use Rattle.table.specs.declared.Start.{Start}
 use Rattle.table.specs.Line.{startOf}
 use Rattle.table.specs.Row.{badLine}
-use Rattle.book.specs.Book.{startBook}
+use Rattle.runs.specs.Run.{startRun}
 use Rattle.listing.specs.Listing.{linesText, thirdOn, secondOn, firstOn}
 
 -- past the end nothing is left
@@ -21,7 +21,7 @@ pub past : (input : List ℕ) (end : ℕ) → length input ≤ end → drop (len
 past input end h = rw (drop-of-length-le input {i = length input} (omega arith), drop-of-length-le input {i = end + 1} (omega arith))
 
 module _ (input : List ℕ) (at end : ℕ) (ee : end ≡ partEnd 10 input at) where
-  -- the first of the lines from a place on, and the others
+  -- the first of the lines from a position on, and the others
   line-is : getD (linesOf (drop at input)) 0 [] ≡ take (end - at) (drop at input)
   line-is = lines-first (drop at input) ∙ sym (part-is 10 input at) ∙ rw ee
 
@@ -38,7 +38,7 @@ module _ (input : List ℕ) (at end : ℕ) (ee : end ≡ partEnd 10 input at) wh
 
     pub third-good : (ergs limit : ℕ) → same ≡ sameBytes (take (end - at) (drop at input)) (bytesOf "op price want") → same ≡ true
         → (next : ℕ) → drop next input ≡ drop (end + 1) input
-        → thirdOn ergs limit (linesOf (drop at input)) ≡ linesText limit 1 (startBook ergs) (linesOf (drop next input))
+        → thirdOn ergs limit (linesOf (drop at input)) ≡ linesText limit 1 (startRun ergs) (linesOf (drop next input))
     unfolding thirdOn
     third-good ergs limit e t next en = rw (line-is, ← e, t, others, en)
 

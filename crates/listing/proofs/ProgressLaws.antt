@@ -19,16 +19,16 @@ use Rattle.table.specs.declared.Line.{Line}
 use Rattle.table.specs.declared.Row.{Row}
 use Rattle.table.specs.Line.{lineOf}
 use Rattle.table.specs.Row.{rowText, badLine, refusedWith}
-use Rattle.book.specs.declared.Ran.{Ran}
+use Rattle.runs.specs.declared.Ran.{Ran}
 use Rattle.listing.specs.declared.Progress.{Progress}
 use Rattle.stepper.specs.Start.{startState, emptyStore}
-use Rattle.book.specs.Book.{Book, startBook, rowOf}
+use Rattle.runs.specs.Run.{Run, startRun, printedRow}
 use Rattle.listing.specs.Listing.{lineText, linesText}
 use Rattle.listing.specs.Progress.{restOf, Advance}
-use Rattle.book.proofs.BookLaws.{Runs}
+use Rattle.runs.proofs.RunLaws.{Runs}
 
-abbrev bookOf : State → List ℕ → List ℕ → Book
-bookOf s store tally = record { state = s; store = store; tally = tally }
+abbrev runWith : State → List ℕ → List ℕ → Run
+runWith s store tally = record { state = s; store = store; tally = tally }
 
 -- a line, and those after it
 pub lines-next : (input : List ℕ) (at : ℕ) → at < length input
@@ -48,17 +48,17 @@ pub line-bounds : (input : List ℕ) (at end : ℕ) → end ≡ partEnd 10 input
 line-bounds input at end e h = rw e (part-from 10 input at, part-within 10 input at (omega arith))
 
 -- ---- one line
-module _ (input : List ℕ) (limit : ℕ) (p : Progress) (store tally page : List ℕ) (going : p .going ≡ true) (within : p .next < length input) (end : ℕ)
+module _ (input : List ℕ) (limit : ℕ) (p : Progress) (store tally buffer : List ℕ) (going : p .going ≡ true) (within : p .next < length input) (end : ℕ)
     (ee : end ≡ partEnd 10 input (p .next)) (line : Line) (el : line ≡ lineOf (take (end - p .next) (drop (p .next) input))) where
   -- what is to be written goes by the line
   by-line : restOf input limit p store tally
-      ≡ lineText limit (p .cycle) (bookOf (p .state) store tally) line (λ next. linesText limit (p .cycle + 1) next (linesOf (drop (end + 1) input)))
+      ≡ lineText limit (p .cycle) (runWith (p .state) store tally) line (λ next. linesText limit (p .cycle + 1) next (linesOf (drop (end + 1) input)))
   by-line = rw (going, lines-next input (p .next) within, ← ee, ← el)
 
   -- it is bad
-  pub bad : line ≡ Line.Bad → (q : Progress) → q .going ≡ false → (page′ : List ℕ) → Wrote page (p .place) (badLine (p .cycle + 3)) page′ (q .place)
-      → Advance input limit p store tally page q store tally page′
-  bad b q shut page′ w = record {
+  pub bad : line ≡ Line.Bad → (q : Progress) → q .going ≡ false → (buffer′ : List ℕ) → Wrote buffer (p .position) (badLine (p .cycle + 3)) buffer′ (q .position)
+      → Advance input limit p store tally buffer q store tally buffer′
+  bad b q shut buffer′ w = record {
     text = badLine (p .cycle + 3);
     wrote = w;
     rest = by-line ∙ rw (b, shut) (sym (append-nil (badLine (p .cycle + 3))));
@@ -67,51 +67,51 @@ module _ (input : List ℕ) (limit : ℕ) (p : Progress) (store tally page : Lis
   module _ (op : Op) (price want : ℕ) (eo : line ≡ Line.Run op price want) (ran : Ran) (store′ tally′ : List ℕ)
       (er : Runs limit op price want (p .state) store tally ran store′ tally′) where
     -- its cycle is refused
-    pub refused : (ran .number ≡ 0 → ⊥) → (q : Progress) → q .going ≡ false → (page′ : List ℕ) → Wrote page (p .place) (refusedWith (ran .number)) page′ (q .place)
-        → Advance input limit p store tally page q store′ tally′ page′
-    refused t q shut page′ w = record {
+    pub refused : (ran .number ≡ 0 → ⊥) → (q : Progress) → q .going ≡ false → (buffer′ : List ℕ) → Wrote buffer (p .position) (refusedWith (ran .number)) buffer′ (q .position)
+        → Advance input limit p store tally buffer q store′ tally′ buffer′
+    refused t q shut buffer′ w = record {
       text = refusedWith (ran .number);
       wrote = w;
       rest = by-line ∙ rw (eo, ← er .0, ne-eqb (ran .number) 0 t, shut) (sym (append-nil (refusedWith (ran .number))));
     }
 
     -- it has its row
-    pub row : ran .number ≡ 0 → (r : Row) → r ≡ rowOf (p .cycle) op (ran .charge) (bookOf (ran .state) store′ tally′)
+    pub row : ran .number ≡ 0 → (r : Row) → r ≡ printedRow (p .cycle) op (ran .charge) (runWith (ran .state) store′ tally′)
         → (q : Progress) → q .going ≡ true → q .state ≡ ran .state → q .next ≡ end + 1 → q .cycle ≡ p .cycle + 1
-        → (page′ : List ℕ) → Wrote page (p .place) (rowText r) page′ (q .place)
-        → Advance input limit p store tally page q store′ tally′ page′
-    row z r e q goes es en ec page′ w = record {
+        → (buffer′ : List ℕ) → Wrote buffer (p .position) (rowText r) buffer′ (q .position)
+        → Advance input limit p store tally buffer q store′ tally′ buffer′
+    row z r e q goes es en ec buffer′ w = record {
       text = rowText r;
       wrote = w;
       rest = by-line ∙ rw (eo, ← er .0, eq-eqb (ran .number) 0 z, ← er .1, ← er .2, ← e, goes, es, en, ec);
     }
 
 -- ---- several lines
-module _ (input : List ℕ) (limit : ℕ) (p : Progress) (store tally page : List ℕ) where
+module _ (input : List ℕ) (limit : ℕ) (p : Progress) (store tally buffer : List ℕ) where
   -- nothing is written yet
-  pub none : p .place ≤ length page → Advance input limit p store tally page p store tally page
-  none h = record { text = []; wrote = wrote-none page (p .place) h; rest = refl }
+  pub none : p .position ≤ length buffer → Advance input limit p store tally buffer p store tally buffer
+  none h = record { text = []; wrote = wrote-none buffer (p .position) h; rest = refl }
 
-  module _ (q : Progress) (store′ tally′ page′ : List ℕ) (first : Advance input limit p store tally page q store′ tally′ page′) where
+  module _ (q : Progress) (store′ tally′ buffer′ : List ℕ) (first : Advance input limit p store tally buffer q store′ tally′ buffer′) where
     -- one line more
-    pub more : (r : Progress) (store″ tally″ page″ : List ℕ) → Advance input limit q store′ tally′ page′ r store″ tally″ page″
-        → Advance input limit p store tally page r store″ tally″ page″
-    more r store″ tally″ page″ later = record {
+    pub more : (r : Progress) (store″ tally″ buffer″ : List ℕ) → Advance input limit q store′ tally′ buffer′ r store″ tally″ buffer″
+        → Advance input limit p store tally buffer r store″ tally″ buffer″
+    more r store″ tally″ buffer″ later = record {
       text = first .text ++ later .text;
-      wrote = join page (p .place) (first .text) (later .text) (first .wrote) (later .wrote);
+      wrote = join buffer (p .position) (first .text) (later .text) (first .wrote) (later .wrote);
       rest = first .rest ∙ rw (later .rest) (sym (append-assoc (first .text) (later .text) (restOf input limit r store″ tally″)));
     }
 
     -- no line more
-    pub all : (q .going && ltb (q .next) (length input)) ≡ false → Wrote page (p .place) (restOf input limit p store tally) page′ (q .place)
-    all e = wrote-same page (p .place) {a = first .text} {b = restOf input limit p store tally} (first .rest ∙ rw (over (q .going) refl) (append-nil (first .text))) (first .wrote)
+    pub all : (q .going && ltb (q .next) (length input)) ≡ false → Wrote buffer (p .position) (restOf input limit p store tally) buffer′ (q .position)
+    all e = wrote-same buffer (p .position) {a = first .text} {b = restOf input limit p store tally} (first .rest ∙ rw (over (q .going) refl) (append-nil (first .text))) (first .wrote)
       where
         over : (b : Bool) → q .going ≡ b → restOf input limit q store′ tally′ ≡ []
         over false k = rw k
         over true k = rw (k, lines-none input (q .next) (ltb-false (q .next) (length input) (sym (ap (λ (x : Bool). x && ltb (q .next) (length input)) k) ∙ e)))
 
 -- ---- all lines, from the start
-pub begun : (input : List ℕ) (limit ergs next place : ℕ) (s : State) → s ≡ startState ergs 0
-    → linesText limit 1 (startBook ergs) (linesOf (drop next input))
-    ≡ restOf input limit (record { state = s; next = next; place = place; cycle = 1; going = true }) (emptyStore 16) (replicate 17 0)
-begun input limit ergs next place s e = rw e
+pub begun : (input : List ℕ) (limit ergs next position : ℕ) (s : State) → s ≡ startState ergs 0
+    → linesText limit 1 (startRun ergs) (linesOf (drop next input))
+    ≡ restOf input limit (record { state = s; next = next; position = position; cycle = 1; going = true }) (emptyStore 16) (replicate 17 0)
+begun input limit ergs next position s e = rw e

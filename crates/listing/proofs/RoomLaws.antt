@@ -1,4 +1,4 @@
--- A listing fits on its page. Assumes nothing.
+-- A listing fits on its buffer. Assumes nothing.
 use Prim.Native.Nat.{ℕ, suc, _+_, _*_, _≤_, _<_}
 use mathlib.Core.Bool.{Bool, true, false, cond}
 use mathlib.Core.Path.{_≡_, refl}
@@ -17,7 +17,7 @@ use Rattle.table.specs.Line.{lineOf, startOf}
 use Rattle.table.specs.Row.{rowText, badLine, refusedWith, namesLine}
 use Rattle.table.proofs.LineLaws.{run-length}
 use Rattle.table.proofs.RowLaws.{row-length, bad-length, refused-length}
-use Rattle.book.specs.Book.{Book, startBook, ranOf, bookAfter, rowOf}
+use Rattle.runs.specs.Run.{Run, startRun, ranOf, runAfter, printedRow}
 use Rattle.listing.specs.Listing.{lineText, linesText, named, thirdOn, started, secondOn, firstOn, listingOf}
 
 -- the bytes of lines, with one for each line's end
@@ -42,21 +42,21 @@ size-drop [] = omega arith
 size-drop (l ∷ ls) = omega arith
 
 -- what a line prints is paid for by its bytes
-line-size : (limit n : ℕ) (b : Book) (line : Line) (bytes : ℕ) → (later : Book → List ℕ) (more : ℕ)
-    → ((op : Op) (price want : ℕ) → line ≡ Line.Run op price want → 6 ≤ bytes) → ((next : Book) → length (later next) ≤ more) → 30 ≤ more
+line-size : (limit n : ℕ) (b : Run) (line : Line) (bytes : ℕ) → (later : Run → List ℕ) (more : ℕ)
+    → ((op : Op) (price want : ℕ) → line ≡ Line.Run op price want → 6 ≤ bytes) → ((next : Run) → length (later next) ≤ more) → 30 ≤ more
     → length (lineText limit n b line later) ≤ 20 * (bytes + 1) + more
 line-size limit n b Line.Bad bytes later more k h m = omega (arith, bad-length (n + 3))
 line-size limit n b (Line.Run op price want) bytes later more k h m = go (eqb (ranOf limit op price want b .number) 0)
   where
     go : (t : Bool)
-        → length (cond t (rowText (rowOf n op (ranOf limit op price want b .charge) (bookAfter limit op price want b)) ++ later (bookAfter limit op price want b))
+        → length (cond t (rowText (printedRow n op (ranOf limit op price want b .charge) (runAfter limit op price want b)) ++ later (runAfter limit op price want b))
         (refusedWith (ranOf limit op price want b .number))) ≤ 20 * (bytes + 1) + more
     go true =
-        let r = rowOf n op (ranOf limit op price want b .charge) (bookAfter limit op price want b) in
-        omega (arith, length-append (rowText r) (later (bookAfter limit op price want b)), row-length r, h (bookAfter limit op price want b), k op price want refl)
+        let r = printedRow n op (ranOf limit op price want b .charge) (runAfter limit op price want b) in
+        omega (arith, length-append (rowText r) (later (runAfter limit op price want b)), row-length r, h (runAfter limit op price want b), k op price want refl)
     go false = omega (arith, refused-length (ranOf limit op price want b .number))
 
-lines-size : (limit n : ℕ) (b : Book) (lines : List (List ℕ)) → length (linesText limit n b lines) ≤ 20 * size lines + 30
+lines-size : (limit n : ℕ) (b : Run) (lines : List (List ℕ)) → length (linesText limit n b lines) ≤ 20 * size lines + 30
 unfolding size
 lines-size limit n b [] = omega arith
 lines-size limit n b (l ∷ ls) =
@@ -73,8 +73,8 @@ named-size n false later most h m = omega (arith, bad-length n)
 third-size : (ergs limit : ℕ) (lines : List (List ℕ)) → length (thirdOn ergs limit lines) ≤ 20 * size lines + 30
 unfolding thirdOn
 third-size ergs limit lines =
-    named-size 3 (sameBytes (getD lines 0 []) (bytesOf "op price want")) (linesText limit 1 (startBook ergs) (drop 1 lines)) (20 * size lines + 30)
-    (omega (arith, lines-size limit 1 (startBook ergs) (drop 1 lines), size-drop lines)) (omega arith)
+    named-size 3 (sameBytes (getD lines 0 []) (bytesOf "op price want")) (linesText limit 1 (startRun ergs) (drop 1 lines)) (20 * size lines + 30)
+    (omega (arith, lines-size limit 1 (startRun ergs) (drop 1 lines), size-drop lines)) (omega arith)
 
 started-size : (start : Start) (lines : List (List ℕ)) → length (started start lines) ≤ 20 * size lines + 30
 started-size Start.Bad lines = omega (arith, bad-length 2)
@@ -86,7 +86,7 @@ first-size lines =
     named-size 1 (sameBytes (getD lines 0 []) (bytesOf "ergs limit")) (secondOn (drop 1 lines)) (20 * size lines + 30)
     (omega (arith, started-size (startOf (getD (drop 1 lines) 0 [])) (drop 1 (drop 1 lines)), size-drop (drop 1 lines), size-drop lines)) (omega arith)
 
--- the page has room for the whole listing
+-- the buffer has room for the whole listing
 pub fits : (input : List ℕ) → length (listingOf input) ≤ 1310848
 unfolding listingOf
 fits input = go (ltb 65536 (length input)) refl
@@ -96,22 +96,22 @@ fits input = go (ltb 65536 (length input)) refl
     go false e =
         omega (arith, length-append namesLine (firstOn (linesOf input)), first-size (linesOf input), size-cut input, ltb-false 65536 (length input) e)
 
--- ---- the whole listing on its page
--- the page begins with it, and the rest is as it was
+-- ---- the whole listing on its buffer
+-- the buffer begins with it, and the rest is as it was
 abbrev Listed : List ℕ → List ℕ → List ℕ → ℕ → Type 0
-Listed input page after r = (r ≡ length (listingOf input)) × (take r after ≡ listingOf input) × (drop r after ≡ drop r page)
+Listed input buffer after r = (r ≡ length (listingOf input)) × (take r after ≡ listingOf input) × (drop r after ≡ drop r buffer)
 
-module _ (input page : List ℕ) (room : length page ≡ 1310848) {p1 : List ℕ} {r1 : ℕ} (names : Wrote page 0 namesLine p1 r1) {after : List ℕ} {r : ℕ} where
-  listed : (text : List ℕ) → listingOf input ≡ namesLine ++ text → Wrote p1 r1 text after r → Listed input page after r
+module _ (input buffer : List ℕ) (room : length buffer ≡ 1310848) {p1 : List ℕ} {r1 : ℕ} (names : Wrote buffer 0 namesLine p1 r1) {after : List ℕ} {r : ℕ} where
+  listed : (text : List ℕ) → listingOf input ≡ namesLine ++ text → Wrote p1 r1 text after r → Listed input buffer after r
   listed text e w =
-      let all = wrote-same page 0 e (join page 0 namesLine text names w) in
+      let all = wrote-same buffer 0 e (join buffer 0 namesLine text names w) in
       let n : r ≡ length (listingOf input) = omega (arith, all .0, fits input) in
-      (n, rw (n, all .1) (whole page (listingOf input) (omega (arith, fits input)) .0), rw (n, all .1) (whole page (listingOf input) (omega (arith, fits input)) .1))
+      (n, rw (n, all .1) (whole buffer (listingOf input) (omega (arith, fits input)) .0), rw (n, all .1) (whole buffer (listingOf input) (omega (arith, fits input)) .1))
 
-  pub long : 65536 < length input → Wrote p1 r1 (badLine 0) after r → Listed input page after r
+  pub long : 65536 < length input → Wrote p1 r1 (badLine 0) after r → Listed input buffer after r
   unfolding listingOf
   long h = listed (badLine 0) (rw (lt-ltb 65536 (length input) h))
 
-  pub short : length input ≤ 65536 → Wrote p1 r1 (firstOn (linesOf input)) after r → Listed input page after r
+  pub short : length input ≤ 65536 → Wrote p1 r1 (firstOn (linesOf input)) after r → Listed input buffer after r
   unfolding listingOf
   short h = listed (firstOn (linesOf input)) (rw (le-ltb 65536 (length input) h))

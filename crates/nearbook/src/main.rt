@@ -8,7 +8,7 @@ const MOST: usize = 65537;
 fn main() {
     let mut input = [0u8; MOST];
     let size = io::read_full(STDIN_FILENO, &mut input);
-    let mut page = [0u8; listing::ROOM];
-    let printed = listing::listing(&input[..size], &mut page);
-    io::write_all(STDOUT_FILENO, &page[..printed]);
+    let mut buffer = [0u8; listing::ROOM];
+    let printed = listing::listing(&input[..size], &mut buffer);
+    io::write_all(STDOUT_FILENO, &buffer[..printed]);
 }

@@ -90,7 +90,7 @@ cycleStore input s store =
     (executeStore (input .settings) (input .source) (input .pointer) (operandsIn input s store .state) store)
     store
 
--- ---- what of a cycle's answer a listing shows
+-- ---- the number and the charge of a cycle's answer
 abbrev pub cycleNumber : CycleAnswer → ℕ
 cycleNumber (CycleAnswer.Done read fetch decode operands execute) = 0
 cycleNumber (CycleAnswer.Refused number stage) = number

@@ -15,7 +15,7 @@ use Rattle.rules.specs.declared.Record.{Record}
 use Rattle.rules.specs.declared.Records.{Records}
 use Rattle.rules.specs.declared.Location.{Location}
 use Rattle.cycle.specs.declared.State.{State}
-use Rattle.cycle.specs.Effects.{noFlags}
+use Rattle.cycle.specs.Effects.{noFlags, noRecord}
 
 abbrev pub word : ℕ → U256
 word n = record { w0 = n; w1 = 0; w2 = 0; w3 = 0 }
@@ -46,7 +46,7 @@ farFrame ergs sp = record {
   stipend = 0;
 }
 
--- an instruction: operation, return kind, source and destination kind, src0, src1, dst0, imm_0, imm_1, price, set flags
+-- an instruction, of which all else is 0 or no: operation, return kind, source and destination kind, src0, src1, dst0, imm_0, imm_1, price, set flags
 abbrev pub instruction : ℕ → ℕ → ℕ → ℕ → ℕ → ℕ → ℕ → ℕ → ℕ → ℕ → Bool → Record
 instruction operation kind source destination src0 src1 dst0 imm0 imm1 price flags = record {
   operation = operation;
@@ -70,13 +70,9 @@ instruction operation kind source destination src0 src1 dst0 imm0 imm1 price fla
   «src1_may_be_pointer» = false;
 }
 
--- all of it 0 and no: a nop
-abbrev pub noInstruction : Record
-noInstruction = instruction 0 0 0 0 0 0 0 0 0 0 false
-
 -- the masked records: a panic return and a nop
 abbrev pub recordsOf : Record → Records
-recordsOf plain = record { plain = plain; panic = instruction 4 2 0 0 0 0 0 0 0 0 false; nop = noInstruction }
+recordsOf plain = record { plain = plain; panic = instruction 4 2 0 0 0 0 0 0 0 0 false; nop = noRecord }
 
 abbrev pub stateAt : ℕ → List U256 → ℕ → ℕ → Record → State
 stateAt stage registers ergs sp kept = record {
@@ -100,7 +96,7 @@ stateAt stage registers ergs sp kept = record {
 
 -- ready, with no register set
 abbrev pub startState : ℕ → ℕ → State
-startState ergs sp = stateAt 0 (replicate 15 emptyWord) ergs sp noInstruction
+startState ergs sp = stateAt 0 (replicate 15 emptyWord) ergs sp noRecord
 
 abbrev pub settingsOf : ℕ → ℕ → Settings
 settingsOf limit multiplier = record { «depth_limit» = limit; «near_call_multiplier» = multiplier; «time_step» = 4 }

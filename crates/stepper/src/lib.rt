@@ -1,5 +1,5 @@
-// A whole cycle: the one place that calls the four stages, for all that run a list. Each stage is called once here, so that the compiler takes all four into the
-// loop above.
+// A whole cycle: the one place that calls the four stages, for all that run a list. Each stage is called once here, so that the compiler inlines all
+// four in the caller's loop.
 ghost use mathlib.Core.Path.{_≡_};
 ghost use Rattle.stepper.specs.Cycle.{fetchNumber, decodeNumber, operandsNumber, executeNumber, cycleOf, cycleStore, cycleNumber, decodeCharge, cycleCharge};
 
@@ -191,7 +191,7 @@ fn decode_charge(answer: DecodeAnswer) -> u32
     }
 }
 
-// What a cycle charged; nothing is said of a refused one, and 0 stands for it.
+// What a cycle charged: 0 for a refused one, also where decode had charged.
 pub fn cycle_charge(answer: CycleAnswer) -> u32
     ensures { λ r. ⌜ r ≡ cycleCharge answer ⌝ }
 {

@@ -1,6 +1,7 @@
 // States and records that are 0 or no but for what is given: where a listing starts, and the edges.
 ghost use mathlib.Core.Path.{_≡_};
 ghost use mathlib.Core.Bool.{false};
+ghost use Rattle.cycle.specs.Effects.{noRecord};
 ghost use Rattle.stepper.specs.Start as start;
 use cycle::Kept;
 use cycle::State;
@@ -64,7 +65,7 @@ pub fn far_frame(ergs: u32, sp: u16) -> Frame
     }
 }
 
-// What a record says beyond 0 and no.
+// A record with these fields; the others are 0 or no.
 pub fn instruction(
     operation: u8,
     return_kind: u8,
@@ -103,8 +104,8 @@ pub fn instruction(
     }
 }
 
-fn no_instruction() -> Record
-    ensures { λ r. ⌜ r ≡ start.noInstruction ⌝ }
+fn no_record() -> Record
+    ensures { λ r. ⌜ r ≡ noRecord ⌝ }
 {
     instruction(0, 0, 0, 0, 0, 0, 0, 0, 0, 0, false)
 }
@@ -114,7 +115,7 @@ pub fn records_of(plain: Record) -> Records
     ensures { λ r. ⌜ r ≡ start.recordsOf plain ⌝ }
 {
     let panic = instruction(4, 2, 0, 0, 0, 0, 0, 0, 0, 0, false);
-    let nop = no_instruction();
+    let nop = no_record();
     Records { plain, panic, nop }
 }
 
@@ -134,7 +135,7 @@ pub fn start_state(ergs: u32, sp: u16) -> State
 {
     let none = registers::empty_word();
     let current = far_frame(ergs, sp);
-    let instruction = no_instruction();
+    let instruction = no_record();
     let kept = Kept {
         instruction,
         write: Location::None,

@@ -73,7 +73,7 @@ fields-some (b ∷ bs) = go (eqb b 32) (fields-some bs)
     go true r = ([], fieldsOf bs, refl)
     go false r = (b ∷ r .0, r .1, ap (onto b) (r .2))
 
--- the slice from a place on
+-- the slice from a position on
 rest-is : (line : List ℕ) (at : ℕ) → take (length line - at) (drop at line) ≡ drop at line
 rest-is line at = take-all (length line - at) (drop at line) (omega (arith, length-drop at line))
 

@@ -1,5 +1,5 @@
 -- What a line of the listing says. Document 01: "a line of names, then values in that order. `op` is add, call, ok, revert or panic; want is what a call requests;
--- limit 1 to 16"; a bad line has "a wrong name or op, a field missing or too many, fields not parted by one space, a value not plain decimal digits, above 32 bits,
+-- ... limit 1 to 16"; a bad line has "a wrong name or op, a field missing or too many, fields not parted by one space, a value not plain decimal digits, above 32 bits,
 -- or a limit outside its range".
 use Prim.Native.Nat.{ℕ}
 use mathlib.Core.Bool.{cond, _&&_}

@@ -1,4 +1,4 @@
--- What a line of the output prints. Document 01: "cycle number, op read, charge, depth after, ergs of the current frame, ergs of all frames, its tally"; "A bad line ends
+-- What a line of the output prints. Document 01: "cycle number, op read, charge, depth after, ergs of the current frame, ergs of all frames, its tally"; "A bad line ... ends
 -- it with `bad line N`, a refusal with `refused R`; the names line is printed first in every case."
 use Prim.Native.Nat.{ℕ}
 use mathlib.Core.List.{List, [], _∷_, _++_}

@@ -90,7 +90,7 @@ digits-one : (k n : ℕ) → n < 10 → digitsIn k n ≡ (48 + n) ∷ []
 digits-one zero n h = rw (mod-eq-of-lt h)
 digits-one (suc k) n h = rw (lt-ltb n 10 h)
 
--- a loop that writes the digits of n, the last first: those of rest are left, up to the place first
+-- a loop that writes the digits of n, the last first: those of rest are left, up to the position first
 pub record Writing (n : ℕ) (digits : List ℕ) (first rest : ℕ) : Type 0 where
   pub size : length digits ≡ 20
   pub inside : first < 20

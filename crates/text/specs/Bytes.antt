@@ -1,4 +1,4 @@
--- Bytes: those of a text, whether two are the same, and a page that they are written on.
+-- Bytes: those of a text, whether two are the same, and a buffer that they are written on.
 use Prim.Native.Nat.{ℕ, _+_, min}
 use Prim.Native.Char.{code}
 use Prim.Native.String as string
@@ -21,13 +21,13 @@ sameBytes [] (y ∷ ys) = false
 sameBytes (x ∷ xs) [] = false
 sameBytes (x ∷ xs) (y ∷ ys) = eqb x y && sameBytes xs ys
 
--- text is written from a place of the page on, as far as there is room: the page afterwards, and the place after the text
-abbrev pub pageAfter : List ℕ → ℕ → List ℕ → List ℕ
-pageAfter page at text = sets page at text
+-- text is written from a position of the buffer on, as far as there is room: the buffer afterwards, and the position after the text
+abbrev pub bufferAfter : List ℕ → ℕ → List ℕ → List ℕ
+bufferAfter buffer at text = sets buffer at text
 
-abbrev pub placeAfter : List ℕ → ℕ → List ℕ → ℕ
-placeAfter page at text = min (at + length text) (length page)
+abbrev pub positionAfter : List ℕ → ℕ → List ℕ → ℕ
+positionAfter buffer at text = min (at + length text) (length buffer)
 
--- both: after is the page, and r the place
+-- both: after is the buffer, and r the position
 abbrev pub Wrote : List ℕ → ℕ → List ℕ → List ℕ → ℕ → Type 0
-Wrote page at text after r = (r ≡ placeAfter page at text) × (after ≡ pageAfter page at text)
+Wrote buffer at text after r = (r ≡ positionAfter buffer at text) × (after ≡ bufferAfter buffer at text)

@@ -1,4 +1,4 @@
--- Numbers as text. Document 01 has bad "a value not plain decimal digits, above 32 bits".
+-- Numbers as text. Bad by document 01: "a value not plain decimal digits, above 32 bits".
 use Prim.Native.Nat.{ℕ, zero, suc, _+_, _*_, _-_, _/_, _%_, _^_}
 use mathlib.Core.Bool.{Bool, true, false, cond, _&&_}
 use mathlib.Core.List.{List, [], _∷_, _++_}
@@ -18,7 +18,7 @@ abbrev pub isSome : List ℕ → Bool
 isSome [] = false
 isSome (b ∷ bs) = true
 
--- the number that digits say after n
+-- n with these digits written after it
 abbrev pub decimalAfter : ℕ → List ℕ → ℕ
 decimalAfter n [] = n
 decimalAfter n (b ∷ bs) = decimalAfter (n * 10 + (b - 48)) bs
@@ -28,7 +28,7 @@ unfoldable pub numberOf : List ℕ → Number
 numberOf field =
     cond (isSome field && allDigits field && ltb (decimalAfter 0 field) (2 ^ 32)) (Number.Value (decimalAfter 0 field)) Number.Bad
 
--- the digits of n, with no zero in front; it has at most k + 1
+-- the digits of n, with no zero in front, for n of at most k + 1 digits
 abbrev pub digitsIn : ℕ → ℕ → List ℕ
 digitsIn zero n = (48 + n % 10) ∷ []
 digitsIn (suc k) n = cond (ltb n 10) ((48 + n) ∷ []) (digitsIn k (n / 10) ++ ((48 + n % 10) ∷ []))

@@ -11,7 +11,7 @@ abbrev pub onto : ℕ → List (List ℕ) → List (List ℕ)
 onto b [] = (b ∷ []) ∷ []
 onto b (p ∷ ps) = (b ∷ p) ∷ ps
 
--- the parts of bytes, with those that are left at their end
+-- the parts of bytes; `end` is what no bytes give
 abbrev pub cut : ℕ → List (List ℕ) → List ℕ → List (List ℕ)
 cut separator end [] = end
 cut separator end (b ∷ bs) = cond (eqb b separator) ([] ∷ cut separator end bs) (onto b (cut separator end bs))
@@ -29,6 +29,6 @@ abbrev pub firstPart : ℕ → List ℕ → List ℕ
 firstPart separator [] = []
 firstPart separator (b ∷ bs) = cond (eqb b separator) [] (b ∷ firstPart separator bs)
 
--- where the part that begins at a place ends
+-- where the part that begins at a position ends
 abbrev pub partEnd : ℕ → List ℕ → ℕ → ℕ
 partEnd separator bytes at = at + length (firstPart separator (drop at bytes))

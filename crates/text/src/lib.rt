@@ -1,4 +1,4 @@
-// Text as bytes: parts between separators, numbers read and written, and a page to write on. Nothing here refuses: what does not fit on the page is left out.
+// Text as bytes: parts between separators, numbers read and written, and a buffer to write on. Nothing here refuses: what does not fit on the buffer is left out.
 ghost use mathlib.Core.Path.{_≡_};
 ghost use mathlib.Core.List.{[], _∷_};
 ghost use Rattle.text.specs.Bytes.{sameBytes, Wrote};
@@ -27,7 +27,7 @@ pub fn same_bytes(a: &[u8], b: &[u8]) -> bool
     true
 }
 
-// Where the part that begins at a place ends: at the next separator, or with the bytes.
+// Where the part that begins at a position ends: at the next separator, or with the bytes.
 pub fn part_end(bytes: &[u8], at: usize, separator: u8) -> usize
     ensures { λ r. ⌜ r ≡ partEnd separator (now (bytes .entry)) at ⌝ }
 {
@@ -64,36 +64,36 @@ pub fn read_number(field: &[u8]) -> Number
     Number::Value(n as u32)
 }
 
-// Writes the bytes from a place of the page on, and gives the place after them.
-pub fn put_bytes(page: &mut [u8], at: usize, bytes: &[u8]) -> usize
-    ensures { λ r. ⌜ Wrote (now (page .entry)) at (now (bytes .entry)) (now (page .exit)) r ⌝ }
+// Writes the bytes from a position of the buffer on, and gives the position after them.
+pub fn put_bytes(buffer: &mut [u8], at: usize, bytes: &[u8]) -> usize
+    ensures { λ r. ⌜ Wrote (now (buffer .entry)) at (now (bytes .entry)) (now (buffer .exit)) r ⌝ }
 {
-    let size = page.len();
-    let mut place = if at < size { at } else { size };
+    let size = buffer.len();
+    let mut position = if at < size { at } else { size };
     let mut i = 0;
-    while (i < bytes.len()) & (place < size) {
-        page[place] = bytes[i];
-        place += 1;
+    while (i < bytes.len()) & (position < size) {
+        buffer[position] = bytes[i];
+        position += 1;
         i += 1;
     }
-    place
+    position
 }
 
-pub fn put_byte(page: &mut [u8], at: usize, byte: u8) -> usize
-    ensures { λ r. ⌜ Wrote (now (page .entry)) at (byte ∷ []) (now (page .exit)) r ⌝ }
+pub fn put_byte(buffer: &mut [u8], at: usize, byte: u8) -> usize
+    ensures { λ r. ⌜ Wrote (now (buffer .entry)) at (byte ∷ []) (now (buffer .exit)) r ⌝ }
 {
-    let size = page.len();
+    let size = buffer.len();
     if at < size {
-        page[at] = byte;
+        buffer[at] = byte;
         at + 1
     } else {
         size
     }
 }
 
-// Writes the decimal digits of a number; the last of the twenty is the lowest.
-pub fn put_number(page: &mut [u8], at: usize, n: u64) -> usize
-    ensures { λ r. ⌜ Wrote (now (page .entry)) at (digitsOf n) (now (page .exit)) r ⌝ }
+// Writes the decimal digits of a number, which are filled in from the end of twenty places.
+pub fn put_number(buffer: &mut [u8], at: usize, n: u64) -> usize
+    ensures { λ r. ⌜ Wrote (now (buffer .entry)) at (digitsOf n) (now (buffer .exit)) r ⌝ }
 {
     let mut digits = [48u8; 20];
     let mut first: usize = 19;
@@ -104,5 +104,5 @@ pub fn put_number(page: &mut [u8], at: usize, n: u64) -> usize
         first -= 1;
     }
     digits[first] = 48 + rest as u8;
-    put_bytes(page, at, &digits[first..])
+    put_bytes(buffer, at, &digits[first..])
 }

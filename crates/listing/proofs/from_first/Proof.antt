@@ -36,7 +36,7 @@ returns c =
     let p5 = p4 .before in
     let p8 = p5 .before .before .before in
     let p11 = p8 .before .before .before in
-    wrote-same (p11 .args .page .now) (p11 .args .place) (laws.first-bad (p11 .args .input .now) _ (p8 .part-end .ensures) _ (p5 .same-bytes .ensures) (not-true _ (p4 .if1 .taken))) (p2 .put-bad-line .ensures)
+    wrote-same (p11 .args .buffer .now) (p11 .args .position) (laws.first-bad (p11 .args .input .now) _ (p8 .part-end .ensures) _ (p5 .same-bytes .ensures) (not-true _ (p4 .if1 .taken))) (p2 .put-bad-line .ensures)
 
 after-line-requires : tie.Need-after-line-requires
 after-line-requires c κs = search needs
@@ -55,7 +55,7 @@ returns-2 c =
     let p6 = p5 .before in
     let p9 = p6 .before .before .before in
     let p12 = p9 .before .before .before in
-    wrote-same (p12 .args .page .now) (p12 .args .place) (laws.first-good (p12 .args .input .now) _ (p9 .part-end .ensures) _ (p6 .same-bytes .ensures) (not-false _ (p5 .if1 .left)) (p4 .after-line .result) (p4 .after-line .ensures .1)) (p2 .from-second .ensures)
+    wrote-same (p12 .args .buffer .now) (p12 .args .position) (laws.first-good (p12 .args .input .now) _ (p9 .part-end .ensures) _ (p6 .same-bytes .ensures) (not-false _ (p5 .if1 .left)) (p4 .after-line .result) (p4 .after-line .ensures .1)) (p2 .from-second .ensures)
 
 pub from-first-spec : {M : Type 1} → statement M
 from-first-spec =

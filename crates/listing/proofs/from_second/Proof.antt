@@ -42,7 +42,7 @@ returns c =
     let p6 = p4 .before .before in
     let p8 = p6 .before .before in
     let p11 = p8 .before .before .before in
-    wrote-same (p11 .args .page .now) (p11 .args .place) (laws.second-bad (p11 .args .input .now) (p11 .args .at) _ (p8 .part-end .ensures) _ (p6 .start-of .ensures) (p4 .enum-told .given .1)) (p2 .put-bad-line .ensures)
+    wrote-same (p11 .args .buffer .now) (p11 .args .position) (laws.second-bad (p11 .args .input .now) (p11 .args .at) _ (p8 .part-end .ensures) _ (p6 .start-of .ensures) (p4 .enum-told .given .1)) (p2 .put-bad-line .ensures)
 
 after-line-requires : tie.Need-after-line-requires
 after-line-requires c κs = search needs
@@ -61,7 +61,7 @@ returns-2 c =
     let p8 = p6 .before .before in
     let p10 = p8 .before .before in
     let p13 = p10 .before .before .before in
-    wrote-same (p13 .args .page .now) (p13 .args .place) (laws.second-good (p13 .args .input .now) (p13 .args .at) _ (p10 .part-end .ensures) _ (p8 .start-of .ensures) _ _ (p6 .start .given .1) (p4 .after-line .result) (p4 .after-line .ensures .1)) (p2 .from-third .ensures)
+    wrote-same (p13 .args .buffer .now) (p13 .args .position) (laws.second-good (p13 .args .input .now) (p13 .args .at) _ (p10 .part-end .ensures) _ (p8 .start-of .ensures) _ _ (p6 .start .given .1) (p4 .after-line .result) (p4 .after-line .ensures .1)) (p2 .from-third .ensures)
 
 pub from-second-spec : {M : Type 1} → statement M
 from-second-spec =

@@ -40,7 +40,7 @@ returns c =
     let p5 = p4 .before in
     let p8 = p5 .before .before .before in
     let p11 = p8 .before .before .before in
-    wrote-same (p11 .args .page .now) (p11 .args .place) (laws.third-bad (p11 .args .input .now) (p11 .args .at) _ (p8 .part-end .ensures) _ (p11 .args .ergs) (p11 .args .limit) (p5 .same-bytes .ensures) (not-true _ (p4 .if1 .taken))) (p2 .put-bad-line .ensures)
+    wrote-same (p11 .args .buffer .now) (p11 .args .position) (laws.third-bad (p11 .args .input .now) (p11 .args .at) _ (p8 .part-end .ensures) _ (p11 .args .ergs) (p11 .args .limit) (p5 .same-bytes .ensures) (not-true _ (p4 .if1 .taken))) (p2 .put-bad-line .ensures)
 
 after-line-requires : tie.Need-after-line-requires
 after-line-requires c κs = search needs
@@ -59,7 +59,7 @@ returns-2 c =
     let p6 = p5 .before in
     let p9 = p6 .before .before .before in
     let p12 = p9 .before .before .before in
-    wrote-same (p12 .args .page .now) (p12 .args .place) (laws.third-good (p12 .args .input .now) (p12 .args .at) _ (p9 .part-end .ensures) _ (p12 .args .ergs) (p12 .args .limit) (p6 .same-bytes .ensures) (not-false _ (p5 .if1 .left)) (p4 .after-line .result) (p4 .after-line .ensures .1)) (p2 .run-lines .ensures)
+    wrote-same (p12 .args .buffer .now) (p12 .args .position) (laws.third-good (p12 .args .input .now) (p12 .args .at) _ (p9 .part-end .ensures) _ (p12 .args .ergs) (p12 .args .limit) (p6 .same-bytes .ensures) (not-false _ (p5 .if1 .left)) (p4 .after-line .result) (p4 .after-line .ensures .1)) (p2 .run-lines .ensures)
 
 pub from-third-spec : {M : Type 1} → statement M
 from-third-spec =

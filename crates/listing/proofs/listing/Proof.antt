@@ -19,7 +19,7 @@ returns c =
     let p2 = c .before .before in
     let p3 = p2 .before in
     let p7 = p3 .before .before .before .before in
-    let room : length (p7 .args .page .now) ≡ 1310848 = search needs in laws.long (p7 .args .input .now) (p7 .args .page .now) room (p3 .put-bytes .ensures) (p2 .if1 .taken) (c .put-bad-line .ensures)
+    let room : length (p7 .args .buffer .now) ≡ 1310848 = search needs in laws.long (p7 .args .input .now) (p7 .args .buffer .now) room (p3 .put-bytes .ensures) (p2 .if1 .taken) (c .put-bad-line .ensures)
 
 from-first-requires : tie.Need-from-first-requires
 from-first-requires c κs = search needs
@@ -29,7 +29,7 @@ returns-2 c =
     let p2 = c .before .before in
     let p3 = p2 .before in
     let p7 = p3 .before .before .before .before in
-    let room : length (p7 .args .page .now) ≡ 1310848 = search needs in laws.short (p7 .args .input .now) (p7 .args .page .now) room (p3 .put-bytes .ensures) (p2 .if1 .left) (c .from-first .ensures)
+    let room : length (p7 .args .buffer .now) ≡ 1310848 = search needs in laws.short (p7 .args .input .now) (p7 .args .buffer .now) room (p3 .put-bytes .ensures) (p2 .if1 .left) (c .from-first .ensures)
 
 pub listing-spec : {M : Type 1} → statement M
 listing-spec =

@@ -12,11 +12,11 @@ use Rattle.listing.proofs.run_lines.Statement.{statement}
 use Rattle.listing.proofs.run_lines.Tie as tie
 
 abbrev Inv-loop : tie.InvT-loop
-Inv-loop input next ergs limit page₀ place store₀ tally₀ p₀ page store tally p =
-    Advance input limit p₀ store₀ tally₀ page₀ p store tally page × Counted p × (length store ≡ length store₀) × (length tally ≡ length tally₀) × (length page ≡ length page₀)
+Inv-loop input next ergs limit buffer₀ position store₀ tally₀ p₀ buffer store tally p =
+    Advance input limit p₀ store₀ tally₀ buffer₀ p store tally buffer × Counted p × (length store ≡ length store₀) × (length tally ≡ length tally₀) × (length buffer ≡ length buffer₀)
 
 abbrev μ-loop : tie.MeasureT-loop
-μ-loop input next ergs limit page₀ place store₀ tally₀ p₀ page store tally p = length input - p .next
+μ-loop input next ergs limit buffer₀ position store₀ tally₀ p₀ buffer store tally p = length input - p .next
 
 start-state-requires : tie.Need-start-state-requires Inv-loop μ-loop
 start-state-requires c κs = tt
@@ -24,7 +24,7 @@ start-state-requires c κs = tt
 loop-holds : tie.Need-loop-holds Inv-loop μ-loop
 loop-holds c =
     let a = c .before .before .before .args in
-    (laws.none (a .input .now) (a .limit) _ _ _ (a .page .now) (c .before .before .before .pre .1), omega arith, refl, refl, refl)
+    (laws.none (a .input .now) (a .limit) _ _ _ (a .buffer .now) (c .before .before .before .pre .1), omega arith, refl, refl, refl)
 
 slice-aggregate-step : tie.Need-slice-aggregate-step Inv-loop μ-loop
 slice-aggregate-step c = search needs
@@ -64,8 +64,8 @@ returns : tie.Need-returns Inv-loop μ-loop
 returns c =
     let there = c .before .before .before in
     let a = there .before .before .before .before .args in
-    wrote-same (a .page .now) (a .place) (laws.begun (a .input .now) (a .limit) (a .ergs) (a .next) (a .place) _ (there .before .start-state .ensures))
-    (laws.all (a .input .now) (a .limit) _ _ _ (a .page .now) (there .loop .p) _ _ _ (there .loop .inv .0) (c .if1 .left))
+    wrote-same (a .buffer .now) (a .position) (laws.begun (a .input .now) (a .limit) (a .ergs) (a .next) (a .position) _ (there .before .start-state .ensures))
+    (laws.all (a .input .now) (a .limit) _ _ _ (a .buffer .now) (there .loop .p) _ _ _ (there .loop .inv .0) (c .if1 .left))
 
 pub run-lines-spec : {M : Type 1} → statement M
 run-lines-spec =

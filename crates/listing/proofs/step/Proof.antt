@@ -50,7 +50,7 @@ returns c =
     let p6 = p4 .before .before in
     let p8 = p6 .before .before in
     let p14 = p8 .before .before .before .before .before .before in
-    (laws.bad (p14 .args .input .now) (p14 .args .limit) (p14 .args .p) (p14 .args .store .now) (p14 .args .tally .now) (p14 .args .page .now) (p14 .pre .0) (p14 .pre .1) _ (p8 .part-end .ensures) _ (p6 .line-of .ensures) (p4 .enum-told .given .1) _ refl _ (p2 .put-bad-line .ensures), omega (arith, laws.line-bounds (p14 .args .input .now) (p14 .args .p .next) _ (p8 .part-end .ensures) (p14 .pre .1)), omega (arith, laws.line-bounds (p14 .args .input .now) (p14 .args .p .next) _ (p8 .part-end .ensures) (p14 .pre .1)))
+    (laws.bad (p14 .args .input .now) (p14 .args .limit) (p14 .args .p) (p14 .args .store .now) (p14 .args .tally .now) (p14 .args .buffer .now) (p14 .pre .0) (p14 .pre .1) _ (p8 .part-end .ensures) _ (p6 .line-of .ensures) (p4 .enum-told .given .1) _ refl _ (p2 .put-bad-line .ensures), omega (arith, laws.line-bounds (p14 .args .input .now) (p14 .args .p .next) _ (p8 .part-end .ensures) (p14 .pre .1)), omega (arith, laws.line-bounds (p14 .args .input .now) (p14 .args .p .next) _ (p8 .part-end .ensures) (p14 .pre .1)))
 
 run-line-requires : tie.Need-run-line-requires
 run-line-requires c κs = tt
@@ -82,7 +82,7 @@ returns-2 c =
     let p17 = p15 .before .before in
     let p19 = p17 .before .before in
     let p25 = p19 .before .before .before .before .before .before in
-    (laws.refused (p25 .args .input .now) (p25 .args .limit) (p25 .args .p) (p25 .args .store .now) (p25 .args .tally .now) (p25 .args .page .now) (p25 .pre .0) (p25 .pre .1) _ (p19 .part-end .ensures) _ (p17 .line-of .ensures) _ _ _ (p15 .line .given .1) _ _ _ (p11 .run-line .ensures) (p4 .if1 .taken) _ refl _ (p2 .put-refused .ensures), omega (arith, laws.line-bounds (p25 .args .input .now) (p25 .args .p .next) _ (p19 .part-end .ensures) (p25 .pre .1)), omega (arith, laws.line-bounds (p25 .args .input .now) (p25 .args .p .next) _ (p19 .part-end .ensures) (p25 .pre .1)))
+    (laws.refused (p25 .args .input .now) (p25 .args .limit) (p25 .args .p) (p25 .args .store .now) (p25 .args .tally .now) (p25 .args .buffer .now) (p25 .pre .0) (p25 .pre .1) _ (p19 .part-end .ensures) _ (p17 .line-of .ensures) _ _ _ (p15 .line .given .1) _ _ _ (p11 .run-line .ensures) (p4 .if1 .taken) _ refl _ (p2 .put-refused .ensures), omega (arith, laws.line-bounds (p25 .args .input .now) (p25 .args .p .next) _ (p19 .part-end .ensures) (p25 .pre .1)), omega (arith, laws.line-bounds (p25 .args .input .now) (p25 .args .p .next) _ (p19 .part-end .ensures) (p25 .pre .1)))
 
 row-of-requires : tie.Need-row-of-requires
 row-of-requires c κs = tt
@@ -121,7 +121,7 @@ returns-3 c =
     let p20 = p18 .before .before in
     let p22 = p20 .before .before in
     let p28 = p22 .before .before .before .before .before .before in
-    (laws.row (p28 .args .input .now) (p28 .args .limit) (p28 .args .p) (p28 .args .store .now) (p28 .args .tally .now) (p28 .args .page .now) (p28 .pre .0) (p28 .pre .1) _ (p22 .part-end .ensures) _ (p20 .line-of .ensures) _ _ _ (p18 .line .given .1) _ _ _ (p14 .run-line .ensures) (p7 .if1 .left) _ (p4 .row-of .ensures) _ refl refl refl refl _ (p2 .put-row .ensures), omega (arith, laws.line-bounds (p28 .args .input .now) (p28 .args .p .next) _ (p22 .part-end .ensures) (p28 .pre .1)), omega (arith, laws.line-bounds (p28 .args .input .now) (p28 .args .p .next) _ (p22 .part-end .ensures) (p28 .pre .1)))
+    (laws.row (p28 .args .input .now) (p28 .args .limit) (p28 .args .p) (p28 .args .store .now) (p28 .args .tally .now) (p28 .args .buffer .now) (p28 .pre .0) (p28 .pre .1) _ (p22 .part-end .ensures) _ (p20 .line-of .ensures) _ _ _ (p18 .line .given .1) _ _ _ (p14 .run-line .ensures) (p7 .if1 .left) _ (p4 .row-of .ensures) _ refl refl refl refl _ (p2 .put-row .ensures), omega (arith, laws.line-bounds (p28 .args .input .now) (p28 .args .p .next) _ (p22 .part-end .ensures) (p28 .pre .1)), omega (arith, laws.line-bounds (p28 .args .input .now) (p28 .args .p .next) _ (p22 .part-end .ensures) (p28 .pre .1)))
 
 pub step-spec : {M : Type 1} → statement M
 step-spec =

@@ -20,8 +20,8 @@ slice-aggregate-listing c = search needs
 listing-requires : tie.Need-listing-requires
 listing-requires c κs = search needs
 
-array-share-prefix-page : tie.Need-array-share-prefix-page
-array-share-prefix-page c =
+array-share-prefix-buffer : tie.Need-array-share-prefix-buffer
+array-share-prefix-buffer c =
     let e = c .listing .ensures in
     omega (arith, e .0, ap length (e .1), length-take (c .listing .result) (c .listing .last .1 .0))
 
@@ -45,7 +45,7 @@ main-spec =
     array-share-prefix-input
     slice-aggregate-listing
     listing-requires
-    array-share-prefix-page
+    array-share-prefix-buffer
     slice-aggregate-write-all
     write-all-requires
     returns)

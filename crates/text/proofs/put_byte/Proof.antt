@@ -5,8 +5,8 @@ use lib.Seq.{set-out}
 use Rattle.text.proofs.put_byte.Statement.{statement}
 use Rattle.text.proofs.put_byte.Tie as tie
 
-slice-write-page : tie.Need-slice-write-page
-slice-write-page c = search needs
+slice-write-buffer : tie.Need-slice-write-buffer
+slice-write-buffer c = search needs
 
 add-result : tie.Need-add-result
 add-result c = search needs
@@ -21,4 +21,4 @@ returns-2 : tie.Need-returns-2
 returns-2 c = (omega arith, sym (set-out _ _ _ (c .if1 .left)))
 
 pub put-byte-spec : {M : Type 1} → statement M
-put-byte-spec = tie.close (tie.spec slice-write-page add-result same-length returns returns-2)
+put-byte-spec = tie.close (tie.spec slice-write-buffer add-result same-length returns returns-2)

@@ -9,27 +9,27 @@ use Rattle.text.proofs.put_bytes.Statement.{statement}
 use Rattle.text.proofs.put_bytes.Tie as tie
 
 abbrev Inv-loop : tie.InvT-loop
-Inv-loop page₀ at bytes size place₀ i₀ page place i = laws.Putting page₀ at bytes size page place i
+Inv-loop buffer₀ at bytes size position₀ i₀ buffer position i = laws.Putting buffer₀ at bytes size buffer position i
 
 abbrev μ-loop : tie.MeasureT-loop
-μ-loop page₀ at bytes size place₀ i₀ page place i = length bytes - i
+μ-loop buffer₀ at bytes size position₀ i₀ buffer position i = length bytes - i
 
-room : (c : tie.In-loop Inv-loop μ-loop) → let l = c .before .loop in let a = c .before .before .before .args in (l .i < length (a .bytes .now)) × (l .place < length (a .page .now))
+room : (c : tie.In-loop Inv-loop μ-loop) → let l = c .before .loop in let a = c .before .before .before .args in (l .i < length (a .bytes .now)) × (l .position < length (a .buffer .now))
 room c = both _ _ _ _ (c .loop-test .taken)
 
 loop-holds : tie.Need-loop-holds Inv-loop μ-loop
 loop-holds c =
     let a = c .before .args in
-    laws.putting-none (a .page .now) (a .at) (a .bytes .now) (c .if1 .place) (⊎-elim (λ w. omega arith) (λ w. omega arith) (c .if1 .came))
+    laws.putting-none (a .buffer .now) (a .at) (a .bytes .now) (c .if1 .position) (⊎-elim (λ w. omega arith) (λ w. omega arith) (c .if1 .came))
 
-shared-slice-read-page : tie.Need-shared-slice-read-page Inv-loop μ-loop
-shared-slice-read-page c = omega (arith, room (c .before))
+shared-slice-read-buffer : tie.Need-shared-slice-read-buffer Inv-loop μ-loop
+shared-slice-read-buffer c = omega (arith, room (c .before))
 
-slice-write-page : tie.Need-slice-write-page Inv-loop μ-loop
-slice-write-page c = omega (arith, room (c .before))
+slice-write-buffer : tie.Need-slice-write-buffer Inv-loop μ-loop
+slice-write-buffer c = omega (arith, room (c .before))
 
-add-place : tie.Need-add-place Inv-loop μ-loop
-add-place c = search needs
+add-position : tie.Need-add-position Inv-loop μ-loop
+add-position c = search needs
 
 add-i : tie.Need-add-i Inv-loop μ-loop
 add-i c = search needs
@@ -55,9 +55,9 @@ put-bytes-spec =
     Inv-loop
     μ-loop
     loop-holds
-    shared-slice-read-page
-    slice-write-page
-    add-place
+    shared-slice-read-buffer
+    slice-write-buffer
+    add-position
     add-i
     loop-less
     loop-again

@@ -8,10 +8,10 @@ use Rattle.text.proofs.put_number.Statement.{statement}
 use Rattle.text.proofs.put_number.Tie as tie
 
 abbrev Inv-loop : tie.InvT-loop
-Inv-loop page at n digits₀ first₀ rest₀ digits first rest = laws.Writing n digits first rest
+Inv-loop buffer at n digits₀ first₀ rest₀ digits first rest = laws.Writing n digits first rest
 
 abbrev μ-loop : tie.MeasureT-loop
-μ-loop page at n digits₀ first₀ rest₀ digits first rest = rest
+μ-loop buffer at n digits₀ first₀ rest₀ digits first rest = rest
 
 loop-holds : tie.Need-loop-holds Inv-loop μ-loop
 loop-holds c = laws.writing-none _ _ (omega arith) refl
@@ -63,7 +63,7 @@ returns c =
     let l = c .before .before .before .before .before .before .before .loop in
     let a = c .before .before .before .before .before .before .before .before .before .args in
     let e = laws.writing-done (a .n) (l .digits) (l .first) (l .rest) (l .inv) (c .before .before .before .before .before .before .loop-test .left) in
-    wrote-same (a .page .now) (a .at) e (c .before .before .put-bytes .ensures)
+    wrote-same (a .buffer .now) (a .at) e (c .before .before .put-bytes .ensures)
 
 pub put-number-spec : {M : Type 1} → statement M
 put-number-spec =

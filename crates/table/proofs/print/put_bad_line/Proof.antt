@@ -23,7 +23,7 @@ returns c =
     let p6 = p2 .before .before .before .before in
     let p10 = p6 .before .before .before .before in
     let a = p10 .args in
-    join (a .page .now) (a .at) (bytesOf "bad line ") (field (a .n) 10) (p6 .put-bytes .ensures) (p2 .put-field .ensures)
+    join (a .buffer .now) (a .at) (bytesOf "bad line ") (field (a .n) 10) (p6 .put-bytes .ensures) (p2 .put-field .ensures)
 
 pub put-bad-line-spec : {M : Type 1} → statement M
 put-bad-line-spec =

@@ -20,7 +20,7 @@ returns c =
     let p6 = p2 .before .before .before .before in
     let p9 = p6 .before .before .before in
     let a = p9 .args in
-    join (a .page .now) (a .at) (digitsOf (a .n)) (a .separator ∷ []) (p6 .put-number .ensures) (p2 .put-byte .ensures)
+    join (a .buffer .now) (a .at) (digitsOf (a .n)) (a .separator ∷ []) (p6 .put-number .ensures) (p2 .put-byte .ensures)
 
 pub put-field-spec : {M : Type 1} → statement M
 put-field-spec = tie.close (tie.spec put-number-requires put-byte-requires same-length returns)

@@ -59,7 +59,7 @@ returns c =
     let p5 = p2 .before .before .before in
     let p8 = p5 .before .before .before in
     let a = p8 .args in
-    wrote-same (a .page .now) (a .at) (ap nameOf (p5 .enum-told .given .1)) (p2 .put-bytes .ensures)
+    wrote-same (a .buffer .now) (a .at) (ap nameOf (p5 .enum-told .given .1)) (p2 .put-bytes .ensures)
 
 same-length-2 : tie.Need-same-length-2
 same-length-2 c = search needs
@@ -70,7 +70,7 @@ returns-2 c =
     let p5 = p2 .before .before .before in
     let p8 = p5 .before .before .before in
     let a = p8 .args in
-    wrote-same (a .page .now) (a .at) (ap nameOf (p5 .enum-told2 .given .1)) (p2 .put-bytes2 .ensures)
+    wrote-same (a .buffer .now) (a .at) (ap nameOf (p5 .enum-told2 .given .1)) (p2 .put-bytes2 .ensures)
 
 same-length-3 : tie.Need-same-length-3
 same-length-3 c = search needs
@@ -81,7 +81,7 @@ returns-3 c =
     let p5 = p2 .before .before .before in
     let p8 = p5 .before .before .before in
     let a = p8 .args in
-    wrote-same (a .page .now) (a .at) (ap nameOf (p5 .enum-told3 .given .1)) (p2 .put-bytes3 .ensures)
+    wrote-same (a .buffer .now) (a .at) (ap nameOf (p5 .enum-told3 .given .1)) (p2 .put-bytes3 .ensures)
 
 same-length-4 : tie.Need-same-length-4
 same-length-4 c = search needs
@@ -92,7 +92,7 @@ returns-4 c =
     let p5 = p2 .before .before .before in
     let p8 = p5 .before .before .before in
     let a = p8 .args in
-    wrote-same (a .page .now) (a .at) (ap nameOf (p5 .enum-told4 .given .1)) (p2 .put-bytes4 .ensures)
+    wrote-same (a .buffer .now) (a .at) (ap nameOf (p5 .enum-told4 .given .1)) (p2 .put-bytes4 .ensures)
 
 same-length-5 : tie.Need-same-length-5
 same-length-5 c = search needs
@@ -103,7 +103,7 @@ returns-5 c =
     let p5 = p2 .before .before .before in
     let p8 = p5 .before .before .before in
     let a = p8 .args in
-    wrote-same (a .page .now) (a .at) (ap nameOf (p5 .enum-told5 .given .1)) (p2 .put-bytes5 .ensures)
+    wrote-same (a .buffer .now) (a .at) (ap nameOf (p5 .enum-told5 .given .1)) (p2 .put-bytes5 .ensures)
 
 pub put-name-spec : {M : Type 1} → statement M
 put-name-spec =

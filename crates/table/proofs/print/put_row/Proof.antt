@@ -50,13 +50,13 @@ returns c =
     let p33 = p29 .before .before .before .before in
     let p36 = p33 .before .before .before in
     let a = p36 .args in
-    laws.wrote-row (a .page .now) (a .at) (a .row) (p33 .put-field .ensures) (p29 .put-name .ensures) (p25 .put-byte .ensures) (p20 .put-field2 .ensures) (p15 .put-field3 .ensures) (p10 .put-field4 .ensures) (p6 .put-field5 .ensures) (p2 .put-field6 .ensures)
+    laws.wrote-row (a .buffer .now) (a .at) (a .row) (p33 .put-field .ensures) (p29 .put-name .ensures) (p25 .put-byte .ensures) (p20 .put-field2 .ensures) (p15 .put-field3 .ensures) (p10 .put-field4 .ensures) (p6 .put-field5 .ensures) (p2 .put-field6 .ensures)
 
 same-length : tie.Need-same-length
 same-length c =
     let p36 = c .before .before .before .before .before .before .before .before .before .before .before .before .before .before .before .before .before .before .before .before .before .before .before .before .before .before .before .before .before .before .before .before .before .before .before .before in
     let a = p36 .args in
-    wrote-length (a .page .now) (a .at) (rowText (a .row)) (returns c)
+    wrote-length (a .buffer .now) (a .at) (rowText (a .row)) (returns c)
 
 pub put-row-spec : {M : Type 1} → statement M
 put-row-spec =

@@ -1,7 +1,7 @@
-use Rattle.book.specs.Book.{inputOf}
+use Rattle.runs.specs.Run.{inputOf}
 use borrow.Author.Needs.{needs}
-use Rattle.book.proofs.input_of.Statement.{statement}
-use Rattle.book.proofs.input_of.Tie as tie
+use Rattle.runs.proofs.input_of.Statement.{statement}
+use Rattle.runs.proofs.input_of.Tie as tie
 
 empty-word-requires : tie.Need-empty-word-requires
 empty-word-requires c κs = tt

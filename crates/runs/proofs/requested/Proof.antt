@@ -1,7 +1,7 @@
-use Rattle.book.specs.Book.{requestedState}
+use Rattle.runs.specs.Run.{requestedState}
 use borrow.Author.Needs.{needs}
-use Rattle.book.proofs.requested.Statement.{statement}
-use Rattle.book.proofs.requested.Tie as tie
+use Rattle.runs.proofs.requested.Statement.{statement}
+use Rattle.runs.proofs.requested.Tie as tie
 
 word-requires : tie.Need-word-requires
 word-requires c κs = tt

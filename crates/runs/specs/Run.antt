@@ -15,32 +15,36 @@ use Rattle.stepper.specs.Start.{word, instruction, recordsOf, settingsOf, start
 use Rattle.stepper.specs.Cycle.{cycleOf, cycleStore, cycleNumber, cycleCharge}
 use Rattle.tally.specs.Tally.{enterRefusal, tallyAfter}
 use Rattle.table.specs.declared.Op.{Op}
-use Rattle.book.specs.declared.Ran.{Ran}
+use Rattle.runs.specs.declared.Ran.{Ran}
 use Rattle.table.specs.declared.Row.{Row}
 
 -- the machine state with what is lent to it
-pub record Book : Type 0 where
+pub record Run : Type 0 where
   pub state : State
   pub store : List ℕ
   pub tally : List ℕ
 
-abbrev pub startBook : ℕ → Book
-startBook ergs = record { state = startState ergs 0; store = emptyStore 16; tally = replicate 17 0 }
+abbrev pub startRun : ℕ → Run
+startRun ergs = record { state = startState ergs 0; store = emptyStore 16; tally = replicate 17 0 }
 
--- the instruction of each op: operation (1 add, 3 near call, 4 return), return kind (0 ok, 1 revert, 2 panic), and for a call register 1 as src0
-abbrev pub recordOf : Op → ℕ → Record
-recordOf Op.Add price = instruction 1 0 0 0 0 0 0 0 0 price false
-recordOf Op.Call price = instruction 3 0 0 0 1 0 0 0 0 price false
-recordOf Op.Ok price = instruction 4 0 0 0 0 0 0 0 0 price false
-recordOf Op.Revert price = instruction 4 1 0 0 0 0 0 0 0 price false
-recordOf Op.Panic price = instruction 4 2 0 0 0 0 0 0 0 price false
+-- operation (1 add, 3 near call, 4 return), return kind (0 ok, 1 revert, 2 panic), src0 and price
+abbrev pub plainRecord : ℕ → ℕ → ℕ → ℕ → Record
+plainRecord operation kind src0 price = instruction operation kind 0 0 src0 0 0 0 0 price false
+
+-- the instruction of each op; a call's src0 is register 1
+abbrev pub opRecord : Op → ℕ → Record
+opRecord Op.Add price = plainRecord 1 0 0 price
+opRecord Op.Call price = plainRecord 3 0 1 price
+opRecord Op.Ok price = plainRecord 4 0 0 price
+opRecord Op.Revert price = plainRecord 4 1 0 price
+opRecord Op.Panic price = plainRecord 4 2 0 price
 
 unfoldable pub inputOf : ℕ → Op → ℕ → Input
 inputOf limit op price = record {
   code = emptyWord;
   source = emptyWord;
   settings = settingsOf limit 1;
-  records = recordsOf (recordOf op price);
+  records = recordsOf (opRecord op price);
   pointer = false;
 }
 
@@ -65,15 +69,15 @@ requestedState s want = record {
   «pending_exception» = s .«pending_exception»;
 }
 
-abbrev pub cycleIn : ℕ → Op → ℕ → ℕ → Book → Cycled
+abbrev pub cycleIn : ℕ → Op → ℕ → ℕ → Run → Cycled
 cycleIn limit op price want b = cycleOf (inputOf limit op price) (requestedState (b .state) want) (b .store)
 
--- the entry of a cycle that came to its end in the tally
+-- the tally's refusal for a finished cycle, or 0
 abbrev pub enterNumber : ℕ → ℕ → List ℕ → Cycled → ℕ
 enterNumber limit before tally c = enterRefusal tally limit before (c .state .depth) (cycleCharge (c .answer))
 
 -- what a line's cycle gives: the refusal of the cycle or of its entry, 0 where there is none
-unfoldable pub ranOf : ℕ → Op → ℕ → ℕ → Book → Ran
+unfoldable pub ranOf : ℕ → Op → ℕ → ℕ → Run → Ran
 ranOf limit op price want b = record {
   state = cycleIn limit op price want b .state;
   number =
@@ -83,25 +87,25 @@ ranOf limit op price want b = record {
   charge = cycleCharge (cycleIn limit op price want b .answer);
 }
 
-unfoldable pub storeAfter : ℕ → Op → ℕ → ℕ → Book → List ℕ
+unfoldable pub storeAfter : ℕ → Op → ℕ → ℕ → Run → List ℕ
 storeAfter limit op price want b = cycleStore (inputOf limit op price) (requestedState (b .state) want) (b .store)
 
-unfoldable pub entriesAfter : ℕ → Op → ℕ → ℕ → Book → List ℕ
+unfoldable pub entriesAfter : ℕ → Op → ℕ → ℕ → Run → List ℕ
 entriesAfter limit op price want b =
     cond (eqb (cycleNumber (cycleIn limit op price want b .answer)) 0)
     (tallyAfter (b .tally) limit (b .state .depth) (cycleIn limit op price want b .state .depth) (cycleCharge (cycleIn limit op price want b .answer)))
     (b .tally)
 
-abbrev pub bookAfter : ℕ → Op → ℕ → ℕ → Book → Book
-bookAfter limit op price want b = record {
+abbrev pub runAfter : ℕ → Op → ℕ → ℕ → Run → Run
+runAfter limit op price want b = record {
   state = ranOf limit op price want b .state;
   store = storeAfter limit op price want b;
   tally = entriesAfter limit op price want b;
 }
 
 -- "cycle number, op read, charge, depth after, ergs of the current frame, ergs of all frames, its tally"
-unfoldable pub rowOf : ℕ → Op → ℕ → Book → Row
-rowOf cycle op charge b = record {
+unfoldable pub printedRow : ℕ → Op → ℕ → Run → Row
+printedRow cycle op charge b = record {
   total = b .state .current .«ergs_remaining» + savedErgs (b .state .depth) (b .store);
   own = getD (b .tally) (b .state .depth) 0;
   cycle = cycle;

@@ -1,7 +1,7 @@
-use Rattle.book.specs.Book.{rowOf}
+use Rattle.runs.specs.Run.{printedRow}
 use borrow.Author.Needs.{needs}
-use Rattle.book.proofs.row_of.Statement.{statement}
-use Rattle.book.proofs.row_of.Tie as tie
+use Rattle.runs.proofs.row_of.Statement.{statement}
+use Rattle.runs.proofs.row_of.Tie as tie
 
 total-of-requires : tie.Need-total-of-requires
 total-of-requires c κs = tt
@@ -10,7 +10,7 @@ own-of-requires : tie.Need-own-of-requires
 own-of-requires c κs = tt
 
 returns : tie.Need-returns
-unfolding rowOf
+unfolding printedRow
 returns c = rw (c .own-of .ensures, c .before .total-of .ensures)
 
 pub row-of-spec : {M : Type 1} → statement M

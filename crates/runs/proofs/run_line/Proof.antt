@@ -1,7 +1,7 @@
-use Rattle.book.proofs.BookLaws as laws
+use Rattle.runs.proofs.RunLaws as laws
 use borrow.Author.Needs.{needs}
-use Rattle.book.proofs.run_line.Statement.{statement}
-use Rattle.book.proofs.run_line.Tie as tie
+use Rattle.runs.proofs.run_line.Statement.{statement}
+use Rattle.runs.proofs.run_line.Tie as tie
 
 input-of-requires : tie.Need-input-of-requires
 input-of-requires c κs = tt

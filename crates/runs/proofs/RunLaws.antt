@@ -12,8 +12,8 @@ use Rattle.stepper.specs.Cycle.{cycleOf, cycleStore, cycleNumber, cycleCharge}
 use Rattle.tally.specs.declared.EnterAnswer.{EnterAnswer}
 use Rattle.tally.specs.Tally.{enterRefusal, enterOf, tallyAfter}
 use Rattle.table.specs.declared.Op.{Op}
-use Rattle.book.specs.declared.Ran.{Ran}
-use Rattle.book.specs.Book.{Book, inputOf, requestedState, ranOf, storeAfter, entriesAfter}
+use Rattle.runs.specs.declared.Ran.{Ran}
+use Rattle.runs.specs.Run.{Run, inputOf, requestedState, ranOf, storeAfter, entriesAfter}
 
 -- ---- the number of an entry's answer
 numberOf : EnterAnswer → ℕ
@@ -41,15 +41,15 @@ unfolding numberOf
 not-entered tally limit before after charge e k = sym (ap numberOf k) ∙ number _ tally limit before after charge e
 
 -- ---- the cycle and its entry
-abbrev bookOf : State → List ℕ → List ℕ → Book
-bookOf s store tally = record { state = s; store = store; tally = tally }
+abbrev runWith : State → List ℕ → List ℕ → Run
+runWith s store tally = record { state = s; store = store; tally = tally }
 
 -- what was run
 abbrev pub Runs : ℕ → Op → ℕ → ℕ → State → List ℕ → List ℕ → Ran → List ℕ → List ℕ → Type 0
 Runs limit op price want s store tally r store′ tally′ =
-    (r ≡ ranOf limit op price want (bookOf s store tally))
-    × (store′ ≡ storeAfter limit op price want (bookOf s store tally))
-    × (tally′ ≡ entriesAfter limit op price want (bookOf s store tally))
+    (r ≡ ranOf limit op price want (runWith s store tally))
+    × (store′ ≡ storeAfter limit op price want (runWith s store tally))
+    × (tally′ ≡ entriesAfter limit op price want (runWith s store tally))
 
 module _ (limit : ℕ) (op : Op) (price want : ℕ) (s : State) (store tally : List ℕ) (input : Input) (ei : input ≡ inputOf limit op price) (given : State)
     (eg : given ≡ requestedState s want) (r : Cycled) (store′ : List ℕ) (er : (r ≡ cycleOf input given store) × (store′ ≡ cycleStore input given store)) (n : ℕ)

@@ -3,7 +3,7 @@ ghost use mathlib.Core.Path.{_≡_};
 ghost use Prim.Native.Nat.{_+_};
 ghost use lib.ListN.{getD};
 ghost use Rattle.frame.specs.Store.{savedErgs};
-ghost use Rattle.book.specs.Book.{recordOf, inputOf, requestedState, ranOf, storeAfter, entriesAfter, rowOf};
+ghost use Rattle.runs.specs.Run.{opRecord, inputOf, requestedState, ranOf, storeAfter, entriesAfter, printedRow};
 ghost use Rattle.tally.specs.Tally.{enterRefusal, tallyAfter};
 use cycle::State;
 use rules::Record;
@@ -20,7 +20,7 @@ pub struct Ran {
 }
 
 fn record_of(op: Op, price: u32) -> Record
-    ensures { λ r. ⌜ r ≡ recordOf op price ⌝ }
+    ensures { λ r. ⌜ r ≡ opRecord op price ⌝ }
 {
     match op {
         Op::Add => stepper::instruction(1, 0, 0, 0, 0, 0, 0, 0, 0, price, false),
@@ -67,7 +67,7 @@ fn enter_number(tally: &mut [u64], limit: u32, before: u32, after: u32, charge: 
     }
 }
 
-// The cycle of a line, and its entry in the tally.
+// The cycle of a line, and its entry in the tally. A stage's refusal leaves the state that the stage was given, in mid-cycle; the tally's leaves the finished cycle.
 pub fn run_line(
     state: State,
     limit: u32,
@@ -120,7 +120,7 @@ fn total_of(held: u32, store: &[u32], depth: u32) -> u64
 }
 
 pub fn row_of(cycle: u64, op: Op, charge: u32, state: State, store: &[u32], tally: &[u64]) -> Row
-    ensures { λ r. ⌜ r ≡ rowOf cycle op charge (record { state = state; store = now (store .entry); tally = now (tally .entry) }) ⌝ }
+    ensures { λ r. ⌜ r ≡ printedRow cycle op charge (record { state = state; store = now (store .entry); tally = now (tally .entry) }) ⌝ }
 {
     let held = state.current.ergs_remaining;
     let depth = state.depth;

@@ -1,7 +1,7 @@
-use Rattle.book.proofs.BookLaws as laws
+use Rattle.runs.proofs.RunLaws as laws
 use borrow.Author.Needs.{needs}
-use Rattle.book.proofs.enter_number.Statement.{statement}
-use Rattle.book.proofs.enter_number.Tie as tie
+use Rattle.runs.proofs.enter_number.Statement.{statement}
+use Rattle.runs.proofs.enter_number.Tie as tie
 
 enter-requires : tie.Need-enter-requires
 enter-requires c κs = tt

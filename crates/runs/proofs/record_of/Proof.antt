@@ -1,6 +1,6 @@
 use borrow.Author.Needs.{needs}
-use Rattle.book.proofs.record_of.Statement.{statement}
-use Rattle.book.proofs.record_of.Tie as tie
+use Rattle.runs.proofs.record_of.Statement.{statement}
+use Rattle.runs.proofs.record_of.Tie as tie
 
 enum-told : tie.Need-enum-told
 enum-told c = search needs
