@@ -22,11 +22,11 @@ fn show(listed: &[u8]) {
 }
 
 fn variant(name: &[u8], input: &[u8]) {
-    let mut page = [0u8; listing::ROOM];
-    let size = listing::listing(input, &mut page);
+    let mut buffer = [0u8; listing::ROOM];
+    let size = listing::listing(input, &mut buffer);
     out::say(name);
     out::say(b": ");
-    show(&page[..size]);
+    show(&buffer[..size]);
 }
 
 pub(crate) fn example() {

@@ -17,8 +17,8 @@ slice-aggregate-say c = search needs
 say-requires-2 : tie.Need-say-requires-2
 say-requires-2 c κs = search needs
 
-array-share-prefix-page : tie.Need-array-share-prefix-page
-array-share-prefix-page c =
+array-share-prefix-buffer : tie.Need-array-share-prefix-buffer
+array-share-prefix-buffer c =
     let l = c .before .before .before .listing in
     omega (arith, l .ensures .0, ap length (l .ensures .1), length-take (l .result) (l .last .1 .0))
 
@@ -41,7 +41,7 @@ variant-spec =
     say-requires
     slice-aggregate-say
     say-requires-2
-    array-share-prefix-page
+    array-share-prefix-buffer
     slice-aggregate-show
     show-requires
     returns)
