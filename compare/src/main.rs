@@ -1,0 +1,72 @@
+//! Compares the port with the Rust that it was made from, cycle by cycle.
+
+mod case;
+mod cases;
+mod compare;
+mod convert;
+mod format;
+mod machine;
+mod oracle;
+mod places;
+mod random;
+#[cfg(test)]
+mod tests;
+
+use oracle::{Oracle, Outcome};
+use std::io::{self, BufRead, BufWriter, Write};
+use std::process::ExitCode;
+
+const USAGE: &str = "usage: compare cases SEED COUNT            print cases
+       compare oracle < CASES             what the Rust does on each
+       compare expected < CASES           what the port owes on each
+       compare run REPLAY_BIN SEED COUNT  compare the two";
+
+fn main() -> ExitCode {
+    let arguments: Vec<String> = std::env::args().skip(1).collect();
+    let arguments: Vec<&str> = arguments.iter().map(String::as_str).collect();
+    let done = match arguments.as_slice() {
+        ["cases", seed, count] => numbers(seed, count).map(|(seed, count)| compare::write_cases(io::stdout(), seed, count).map(|()| true)),
+        ["oracle"] => Some(answer_cases(Outcome::line).map(|()| true)),
+        ["expected"] => Some(answer_cases(expected).map(|()| true)),
+        ["run", replay, seed, count] => numbers(seed, count).map(|(seed, count)| compare::run(replay, seed, count)),
+        _ => None,
+    };
+    match done {
+        Some(Ok(true)) => ExitCode::SUCCESS,
+        Some(Ok(false)) => ExitCode::from(1),
+        Some(Err(error)) => {
+            eprintln!("compare: {error}");
+            ExitCode::from(2)
+        }
+        None => {
+            eprintln!("{USAGE}");
+            ExitCode::from(2)
+        }
+    }
+}
+
+fn numbers(seed: &str, count: &str) -> Option<(u64, u64)> {
+    Some((seed.parse().ok()?, count.parse().ok()?))
+}
+
+/// Prints a line for each case of the standard input.
+fn answer_cases(line: fn(&Outcome) -> String) -> io::Result<()> {
+    let oracle = Oracle::new();
+    let mut out = BufWriter::new(io::stdout().lock());
+    for text in io::stdin().lock().split(b'\n') {
+        let answer = match format::read_case(&text?) {
+            Some(case) => line(&oracle.run(&case).outcome),
+            None => "unread".into(),
+        };
+        writeln!(out, "{answer}")?;
+    }
+    out.flush()
+}
+
+/// The result line that the port owes; `outside` where it owes nothing.
+fn expected(outcome: &Outcome) -> String {
+    match outcome.refusal() {
+        Some(refusal) => refusal.to_string(),
+        None => outcome.line(),
+    }
+}

@@ -1,0 +1,5 @@
+//! Operations, operands and conditions.
+
+pub mod opcode;
+pub mod ret;
+pub mod versioned_hash;
