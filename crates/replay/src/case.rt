@@ -145,7 +145,8 @@ pub(crate) fn input_at(numbers: &[u64]) -> Input {
     }
 }
 
-fn no_kept() -> Kept {
+// What a ready state keeps.
+pub(crate) fn no_kept() -> Kept {
     let instruction = stepper::instruction(0, 0, 0, 0, 0, 0, 0, 0, 0, 0, false);
     Kept {
         instruction,
@@ -153,11 +154,19 @@ fn no_kept() -> Kept {
     }
 }
 
-pub(crate) fn state_at(numbers: &[u64], current: Frame) -> State {
+// What is kept after operands, where the plain record is the one that decode kept.
+pub(crate) fn kept_at(numbers: &[u64]) -> Kept {
+    let instruction = record_at(numbers, layout::records_start(numbers));
+    Kept {
+        instruction,
+        write: Location::None,
+    }
+}
+
+pub(crate) fn state_at(numbers: &[u64], current: Frame, kept: Kept, stage: u8) -> State {
     let registers = registers_at(numbers);
     let pointers = pointers_at(numbers);
     let flags = flags_at(numbers);
-    let kept = no_kept();
     let previous = word_at(numbers, layout::STATE, 3);
     let none = stepper::word(0);
     let counter = signed::from_word(numbers::u32_at(numbers, layout::STATE, 9));
@@ -175,7 +184,7 @@ pub(crate) fn state_at(numbers: &[u64], current: Frame) -> State {
         pubdata_revert_counter: PubdataCost(counter),
         previous_super_pc: numbers::u16_at(numbers, layout::STATE, 8),
         pointers,
-        stage: 0,
+        stage,
         has_word: false,
         pending_exception: numbers::bit_at(numbers, layout::STATE, 2),
     }

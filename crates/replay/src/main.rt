@@ -1,4 +1,4 @@
-// Runs cases: each line of standard input is one whole cycle from a ready state, and a line of standard output says what came of it.
+// Runs cases: each line of standard input is one whole cycle from a ready state, or execute alone from a state in mid-cycle, and a line of standard output says what came of it.
 mod case;
 mod layout;
 mod numbers;

@@ -45,9 +45,9 @@ fn set(numbers: &mut [u64], i: usize, n: u64) {
     }
 }
 
-// How many there are, parted by one space each.
-pub(crate) fn read_numbers(line: &[u8], numbers: &mut [u64]) -> usize {
-    let mut at = 0;
+// How many there are from a place on, parted by one space each.
+pub(crate) fn read_numbers(line: &[u8], start: usize, numbers: &mut [u64]) -> usize {
+    let mut at = start;
     let mut count: usize = 0;
     while count < MOST {
         let end = text::part_end(line, at, 32);

@@ -218,12 +218,14 @@ fn event_number(event: Event) -> u64 {
     }
 }
 
+fn put_done(out: &mut [u8], at: usize, write: Write, event: Event) -> usize {
+    let next = put_write(out, at, write);
+    put(out, next, event_number(event))
+}
+
 fn put_execute(out: &mut [u8], at: usize, answer: ExecuteAnswer) -> usize {
     match answer {
-        ExecuteAnswer::Done { write, event } => {
-            let next = put_write(out, at, write);
-            put(out, next, event_number(event))
-        }
+        ExecuteAnswer::Done { write, event } => put_done(out, at, write, event),
         ExecuteAnswer::Refused(_) => at,
     }
 }
@@ -231,6 +233,23 @@ fn put_execute(out: &mut [u8], at: usize, answer: ExecuteAnswer) -> usize {
 fn put_refused(out: &mut [u8], number: u32, stage: u32) -> usize {
     let a = text::put_bytes(out, 0, b"refused");
     put_pair(out, a, number as u64, stage as u64)
+}
+
+// The line of execute alone, which has no part for the other stages.
+pub(crate) fn put_executed(
+    out: &mut [u8],
+    state: State,
+    answer: ExecuteAnswer,
+    store: &[u32],
+) -> usize {
+    match answer {
+        ExecuteAnswer::Refused(number) => put_refused(out, number, 3),
+        ExecuteAnswer::Done { write, event } => {
+            let a = text::put_bytes(out, 0, b"ok");
+            let b = put_state(out, a, state, store);
+            put_done(out, b, write, event)
+        }
+    }
 }
 
 // The whole line but its end; the answer is its length.

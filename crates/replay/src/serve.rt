@@ -3,9 +3,13 @@ use crate::case;
 use crate::layout;
 use crate::numbers;
 use crate::result;
+use frame::Frame;
 use frame::ReadAnswer;
 use libc::STDIN_FILENO;
 use libc::STDOUT_FILENO;
+
+// The bytes of the word that a case for execute alone begins with, and its space.
+const ALONE: usize = 8;
 
 // How much of the buffer is the start of a line, whether the line that is read is skipped, and whether the input has ended.
 struct Held {
@@ -18,14 +22,9 @@ fn put_unread(out: &mut [u8]) -> usize {
     text::put_bytes(out, 0, b"unread")
 }
 
-// The store has as many rows as the limit, all 0.
-fn put_case(out: &mut [u8], numbers: &[u64], store: &mut [u32]) -> usize {
-    let read = case::frame_at(numbers);
-    let ReadAnswer::Good(current) = read else {
-        return put_unread(out);
-    };
-    case::fill_store(store, numbers);
-    let ready = case::state_at(numbers, current);
+// A whole cycle from a ready state.
+fn put_cycle(out: &mut [u8], numbers: &[u64], current: Frame, store: &mut [u32]) -> usize {
+    let ready = case::state_at(numbers, current, case::no_kept(), 0);
     let input = case::input_at(numbers);
     let cycled = stepper::cycle(ready, input, store);
     let after = cycled.state;
@@ -33,15 +32,51 @@ fn put_case(out: &mut [u8], numbers: &[u64], store: &mut [u32]) -> usize {
     result::put_result(out, after, answer, store)
 }
 
+// Execute alone, from a state in mid-cycle: stage 3, the plain record kept.
+fn put_alone(out: &mut [u8], numbers: &[u64], current: Frame, store: &mut [u32]) -> usize {
+    let reached = case::state_at(numbers, current, case::kept_at(numbers), 3);
+    let input = case::input_at(numbers);
+    let settings = input.settings;
+    let source = input.source;
+    let executed = reached.execute(settings, store, source, input.pointer);
+    let after = executed.state;
+    let answer = executed.answer;
+    result::put_executed(out, after, answer, store)
+}
+
+// The store has as many rows as the limit, all 0.
+fn put_case(out: &mut [u8], numbers: &[u64], store: &mut [u32], alone: bool) -> usize {
+    let read = case::frame_at(numbers);
+    let ReadAnswer::Good(current) = read else {
+        return put_unread(out);
+    };
+    case::fill_store(store, numbers);
+    if alone {
+        put_alone(out, numbers, current, store)
+    } else {
+        put_cycle(out, numbers, current, store)
+    }
+}
+
+// Whether a line is a case for execute alone: a word, then the numbers.
+fn is_alone(line: &[u8]) -> bool {
+    if line.len() < ALONE {
+        return false;
+    }
+    text::same_bytes(&line[..ALONE], b"execute ")
+}
+
 fn put_line(out: &mut [u8], line: &[u8]) -> usize {
+    let alone = is_alone(line);
+    let start = if alone { ALONE } else { 0 };
     let mut numbers = [0u64; numbers::MOST];
-    let count = numbers::read_numbers(line, &mut numbers);
+    let count = numbers::read_numbers(line, start, &mut numbers);
     if !layout::is_case(&numbers, count) {
         return put_unread(out);
     }
     let mut store = [0u32; layout::STORE];
     let size = layout::words_of(layout::limit_of(&numbers));
-    put_case(out, &numbers, &mut store[..size])
+    put_case(out, &numbers, &mut store[..size], alone)
 }
 
 fn run_line(out: &mut [u8], line: &[u8]) {

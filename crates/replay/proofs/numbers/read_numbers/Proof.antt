@@ -6,10 +6,10 @@ use Rattle.replay.proofs.numbers.read_numbers.Statement.{statement}
 use Rattle.replay.proofs.numbers.read_numbers.Tie as tie
 
 abbrev Inv-loop : tie.InvT-loop
-Inv-loop line numbers₀ at₀ count₀ numbers at count = length numbers ≡ length numbers₀
+Inv-loop line start numbers₀ at₀ count₀ numbers at count = length numbers ≡ length numbers₀
 
 abbrev μ-loop : tie.MeasureT-loop
-μ-loop line numbers₀ at₀ count₀ numbers at count = 736 - count
+μ-loop line start numbers₀ at₀ count₀ numbers at count = 736 - count
 
 loop-holds : tie.Need-loop-holds Inv-loop μ-loop
 loop-holds c = search needs

@@ -3,6 +3,9 @@ use Rattle.replay.proofs.PrefixLaws.{prefix-length}
 use Rattle.replay.proofs.serve.put_line.Statement.{statement}
 use Rattle.replay.proofs.serve.put_line.Tie as tie
 
+is-alone-requires : tie.Need-is-alone-requires
+is-alone-requires c κs = search needs
+
 slice-aggregate-read-numbers : tie.Need-slice-aggregate-read-numbers
 slice-aggregate-read-numbers c = search needs
 
@@ -55,6 +58,7 @@ pub put-line-spec : {M : Type 1} → statement M
 put-line-spec =
     tie.close
     (tie.spec
+    is-alone-requires
     slice-aggregate-read-numbers
     read-numbers-requires
     slice-aggregate-is-case
