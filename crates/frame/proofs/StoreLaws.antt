@@ -189,3 +189,14 @@ no-ergs store i h = sym (List·getD-eq-default store 0 h) ∙ ergs-at store i
 -- one row more
 pub savedErgs-more : (store : List ℕ) (i sum ergs : ℕ) → sum ≡ savedErgs i store → ergs ≡ frameOf (rowAt store i) .«ergs_remaining» → sum + ergs ≡ savedErgs (i + 1) store
 savedErgs-more store i sum ergs es ee = rw (add-one i, ← ee, ← es) (omega arith)
+
+-- rows past the store's end add nothing
+savedErgs-past : (store : List ℕ) (i k : ℕ) → length store ≤ i * rowWidth → savedErgs (k + i) store ≡ savedErgs i store
+savedErgs-past store i zero h = rw (zero-add i)
+savedErgs-past store i (suc k) h =
+    rw (suc-add k i, ← no-ergs store (k + i) (omega (arith, h)), savedErgs-past store i k h, zero-add (savedErgs i store))
+
+pub savedErgs-all : (store : List ℕ) (i depth sum : ℕ) → length store ≤ i * rowWidth → i ≤ depth → sum ≡ savedErgs i store → sum ≡ savedErgs depth store
+savedErgs-all store i depth sum h l e =
+    let split : (depth - i) + i ≡ depth = omega (arith, l) in
+    e ∙ sym (savedErgs-past store i (depth - i) h) ∙ ap (λ n. savedErgs n store) split

@@ -126,13 +126,13 @@ fn row_ergs(store: &[u32], i: u32) -> u32
     if at < store.len() { store[at] } else { 0 }
 }
 
-// The ergs of the first rows, as many as the depth; it looks at each of them, also past the store's end.
+// The ergs of the first rows, as many as the depth. It stops at the store's end, so that no depth makes it slow.
 pub fn saved_ergs(store: &[u32], depth: u32) -> u64
     ensures { λ r. ⌜ (r ≡ savedErgs depth (now (store .entry))) × (r ≤ depth * 4294967295) ⌝ }
 {
     let mut sum: u64 = 0;
     let mut i: u32 = 0;
-    while i < depth {
+    while i < depth && (i as usize) * ROW_WIDTH < store.len() {
         let ergs = row_ergs(store, i);
         sum += ergs as u64;
         i += 1;
