@@ -6,3 +6,4 @@ pub mod NearCallLaws
 pub mod RetLaws
 pub mod ArithmeticLaws
 pub mod ExecuteLaws
+pub mod AnswerLaws

@@ -1,4 +1,5 @@
--- Execute. Document 01: operations 0 nop, 1 add, 2 sub, 3 near call, 4 return; "Checks run by number." Refusals 1 to 6 here, 7 to 14 with each operation.
+-- Execute. Document 01: operations 0 nop, 1 add, 2 sub, 3 near call, 4 return; "Checks run by number." Refusals 1, 2, 3, 5 and 6 here, 7 to 14 with each operation;
+-- Answers.antt has them in one list.
 use Prim.Native.Nat.{ℕ}
 use mathlib.Core.Bool.{Bool, not, cond, _||_}
 use mathlib.Core.List.{List, [], _∷_}
@@ -23,6 +24,11 @@ use Rattle.cycle.specs.Arithmetic.{arithmeticOf}
 abbrev pub sourcesIn : U256 → Bool → State → Sources
 sourcesIn word pointer s = sourcesOf (recordOf s) (s .registers) (s .pointers) word pointer
 
+-- refusal 6: "after the swap, pointer in a place that may not hold one, not kernel"
+abbrev pub pointerIn : U256 → Bool → State → Bool
+pointerIn word pointer s =
+    pointerRefused (kernelMode (s .current)) (recordOf s) (sourcesIn word pointer s .src0 .«is_pointer») (sourcesIn word pointer s .src1 .«is_pointer»)
+
 abbrev pub executeRefusal : Bool → Bool → Bool → Bool → Bool → ℕ
 executeRefusal sizes turn bad other pointer =
     firstOf ((sizes refuses 1) ∷ (turn refuses 2) ∷ (bad refuses 3) ∷ (other refuses 5) ∷ (pointer refuses 6) ∷ [])
@@ -30,7 +36,7 @@ executeRefusal sizes turn bad other pointer =
 abbrev pub executeRefusalIn : Settings → U256 → Bool → State → List ℕ → ℕ
 executeRefusalIn settings word pointer s store =
     executeRefusal (badStore settings s store) (outOfTurn addressed s) (not (goodRecord (recordOf s))) (eqb (recordOf s .operation) 5)
-    (pointerRefused (kernelMode (s .current)) (recordOf s) (sourcesIn word pointer s .src0 .«is_pointer») (sourcesIn word pointer s .src1 .«is_pointer»))
+    (pointerIn word pointer s)
 
 -- what a near call requests: "the low 32 bits of src0"
 abbrev pub wantIn : U256 → Bool → State → ℕ

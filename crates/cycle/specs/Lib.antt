@@ -8,3 +8,4 @@ pub mod NearCall
 pub mod Ret
 pub mod Arithmetic
 pub mod Execute
+pub mod Answers

@@ -2,7 +2,8 @@
 ghost use mathlib.Core.Path.{_≡_};
 ghost use mathlib.Core.Bool.{cond};
 ghost use Rattle.rules.specs.Code.{superPc};
-ghost use Rattle.cycle.specs.Decode.{decodedState, decodeOf};
+ghost use Rattle.cycle.specs.Decode.{decodedState, decodeRefusal, decodeOf};
+ghost use Rattle.cycle.specs.Answers.{decodeNumber};
 use crate::DecodeAnswer;
 use crate::Decoded;
 use crate::Kept;
@@ -54,7 +55,8 @@ impl State {
     }
 
     pub fn decode(self, settings: Settings, store: &[u32], records: Records) -> Decoded
-        ensures { λ r. ⌜ r ≡ decodeOf settings records self (now (store .entry)) ⌝ }
+        ensures { λ r. ⌜ (r ≡ decodeOf settings records self (now (store .entry)))
+            × (decodeNumber (r .answer) ≡ decodeRefusal settings records self (now (store .entry))) ⌝ }
     {
         let plain = records.plain;
         let panic = records.panic;

@@ -1,6 +1,8 @@
 // Execute, from the Rust's `cycle`.
 ghost use mathlib.Core.Path.{_≡_};
+ghost use Rattle.frame.specs.Refusal.{firstOf};
 ghost use Rattle.cycle.specs.Execute.{executeRefusal, executeOf, executeStore};
+ghost use Rattle.cycle.specs.Answers.{executeNumber, executeChecks};
 use crate::Executed;
 use crate::State;
 use rules::Settings;
@@ -9,7 +11,7 @@ use rules::refusal;
 use rules::select;
 use u256::U256;
 
-// Refusals 1 to 6.
+// Refusals 1, 2, 3, 5 and 6.
 fn execute_refusal(sizes: bool, turn: bool, bad: bool, other: bool, pointer: bool) -> u32
     ensures { λ r. ⌜ r ≡ executeRefusal sizes turn bad other pointer ⌝ }
 {
@@ -38,7 +40,8 @@ impl State {
         pointer: bool,
     ) -> Executed
         ensures { λ r. ⌜ (r ≡ executeOf settings word pointer self (now (store .entry)))
-            × (now (store .exit) ≡ executeStore settings word pointer self (now (store .entry))) ⌝ }
+            × (now (store .exit) ≡ executeStore settings word pointer self (now (store .entry)))
+            × (executeNumber (r .answer) ≡ firstOf (executeChecks settings word pointer self (now (store .entry)))) ⌝ }
     {
         let kept = self.kept;
         let instruction = kept.instruction;

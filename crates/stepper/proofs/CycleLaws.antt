@@ -20,7 +20,8 @@ use Rattle.cycle.specs.Execute.{executeOf, executeStore}
 use Rattle.stepper.specs.declared.Input.{Input}
 use Rattle.stepper.specs.declared.Cycled.{Cycled}
 use Rattle.stepper.specs.declared.CycleAnswer.{CycleAnswer}
-use Rattle.stepper.specs.Cycle.{fetchNumber, decodeNumber, operandsNumber, executeNumber, refusedAt, cycleDone, cycleOf, cycleStore, decodeCharge, cycleCharge}
+use Rattle.cycle.specs.Answers.{fetchNumber, decodeNumber, operandsNumber, executeNumber}
+use Rattle.stepper.specs.Cycle.{refusedAt, cycleDone, cycleOf, cycleStore, decodeCharge, cycleCharge}
 
 -- the charge of a cycle is that of its decode
 pub charge : {a : CycleAnswer} {read : Location} {fetch : FetchAnswer} {decode : DecodeAnswer} {operands : OperandsAnswer} {execute : ExecuteAnswer}

@@ -9,36 +9,15 @@ use Rattle.cycle.specs.declared.Fetched.{Fetched}
 use Rattle.cycle.specs.declared.Decoded.{Decoded}
 use Rattle.cycle.specs.declared.Addressed.{Addressed}
 use Rattle.cycle.specs.declared.Executed.{Executed}
-use Rattle.cycle.specs.declared.FetchAnswer.{FetchAnswer}
 use Rattle.cycle.specs.declared.DecodeAnswer.{DecodeAnswer}
-use Rattle.cycle.specs.declared.OperandsAnswer.{OperandsAnswer}
-use Rattle.cycle.specs.declared.ExecuteAnswer.{ExecuteAnswer}
 use Rattle.cycle.specs.Fetch.{queryOf, fetchOf}
 use Rattle.cycle.specs.Decode.{decodeOf}
 use Rattle.cycle.specs.Operands.{operandsOf}
 use Rattle.cycle.specs.Execute.{executeOf, executeStore}
+use Rattle.cycle.specs.Answers.{fetchNumber, decodeNumber, operandsNumber, executeNumber}
 use Rattle.stepper.specs.declared.Input.{Input}
 use Rattle.stepper.specs.declared.Cycled.{Cycled}
 use Rattle.stepper.specs.declared.CycleAnswer.{CycleAnswer}
-
--- the number of each stage's answer: 0 where it is no refusal
-abbrev pub fetchNumber : FetchAnswer → ℕ
-fetchNumber (FetchAnswer.Code bits) = 0
-fetchNumber FetchAnswer.Exception = 0
-fetchNumber FetchAnswer.Nop = 0
-fetchNumber (FetchAnswer.Refused n) = n
-
-abbrev pub decodeNumber : DecodeAnswer → ℕ
-decodeNumber (DecodeAnswer.Done errors charge) = 0
-decodeNumber (DecodeAnswer.Refused n) = n
-
-abbrev pub operandsNumber : OperandsAnswer → ℕ
-operandsNumber (OperandsAnswer.Done source destination) = 0
-operandsNumber (OperandsAnswer.Refused n) = n
-
-abbrev pub executeNumber : ExecuteAnswer → ℕ
-executeNumber (ExecuteAnswer.Done write event) = 0
-executeNumber (ExecuteAnswer.Refused n) = n
 
 -- the stages, each from the state that the one before it handed back
 abbrev pub fetchIn : Input → State → List ℕ → Fetched

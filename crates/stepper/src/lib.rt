@@ -1,7 +1,8 @@
 // A whole cycle: the one place that calls the four stages, for all that run a list. Each stage is called once here, so that the compiler inlines all
 // four in the caller's loop.
 ghost use mathlib.Core.Path.{_≡_};
-ghost use Rattle.stepper.specs.Cycle.{fetchNumber, decodeNumber, operandsNumber, executeNumber, cycleOf, cycleStore, cycleNumber, decodeCharge, cycleCharge};
+ghost use Rattle.cycle.specs.Answers.{fetchNumber, decodeNumber, operandsNumber, executeNumber};
+ghost use Rattle.stepper.specs.Cycle.{cycleOf, cycleStore, cycleNumber, decodeCharge, cycleCharge};
 
 mod start;
 

@@ -1,5 +1,6 @@
 use borrow.Author.Needs.{needs}
 use Rattle.cycle.proofs.DecodeLaws as laws
+use Rattle.cycle.proofs.AnswerLaws as answers
 use Rattle.cycle.proofs.State.decode.Statement.{statement}
 use Rattle.cycle.proofs.State.decode.Tie as tie
 
@@ -27,7 +28,7 @@ returns c =
     let p6 = p5 .before in
     let p14 = p6 .before .before .before .before .before .before .before .before in
     let a = p14 .args in
-    laws.refused (a .settings) (a .records) (a .self) (a .store .now) _ (p6 .error-flags .ensures) _ (p5 .any-error .ensures) _ (p4 .bad-sizes .ensures) _ (p3 .bad-records .ensures) _ (p1 .first-refusal .ensures) (c .if1 .taken)
+    answers.decode-numbered _ _ _ _ _ (laws.refused (a .settings) (a .records) (a .self) (a .store .now) _ (p6 .error-flags .ensures) _ (p5 .any-error .ensures) _ (p4 .bad-sizes .ensures) _ (p3 .bad-records .ensures) _ (p1 .first-refusal .ensures) (c .if1 .taken))
 
 price-of-requires : tie.Need-price-of-requires
 price-of-requires c κs = search needs
@@ -66,7 +67,7 @@ returns-2 c =
     let p13 = p12 .before in
     let p21 = p13 .before .before .before .before .before .before .before .before in
     let a = p21 .args in
-    laws.done (a .settings) (a .records) (a .self) (a .store .now) _ (p13 .error-flags .ensures) _ (p12 .any-error .ensures) _ (p11 .bad-sizes .ensures) _ (p10 .bad-records .ensures) _ (p8 .first-refusal .ensures) (p7 .if1 .left) _ (p6 .price-of .ensures) _ (p5 .smaller .ensures) _ (p4 .less .ensures) _ (p3 .condition-holds .ensures) _ (p2 .either .ensures) _ (p1 .either2 .ensures) _ (c .decoded .ensures)
+    answers.decode-numbered _ _ _ _ _ (laws.done (a .settings) (a .records) (a .self) (a .store .now) _ (p13 .error-flags .ensures) _ (p12 .any-error .ensures) _ (p11 .bad-sizes .ensures) _ (p10 .bad-records .ensures) _ (p8 .first-refusal .ensures) (p7 .if1 .left) _ (p6 .price-of .ensures) _ (p5 .smaller .ensures) _ (p4 .less .ensures) _ (p3 .condition-holds .ensures) _ (p2 .either .ensures) _ (p1 .either2 .ensures) _ (c .decoded .ensures))
 
 pub decode-spec : {M : Type 1} → statement M
 decode-spec =

@@ -1,5 +1,6 @@
 use borrow.Author.Needs.{needs}
 use Rattle.cycle.proofs.ExecuteLaws as laws
+use Rattle.cycle.proofs.AnswerLaws as answers
 use Rattle.cycle.proofs.State.execute.Statement.{statement}
 use Rattle.cycle.proofs.State.execute.Tie as tie
 
@@ -35,7 +36,7 @@ returns c =
     let p10 = p7 .before .before .before in
     let p16 = p10 .before .before .before .before .before .before in
     let a = p16 .args in
-    laws.refused (a .settings) (a .word) (a .pointer) (a .self) (a .store .now) _ (p10 .sources .ensures) _ (p7 .bad-sizes .ensures) _ (p6 .good-record .ensures) _ (p5 .is-kernel-mode .ensures) _ (p4 .pointer-refused .ensures) _ (p2 .execute-refusal .ensures) (p1 .if1 .taken) _ (c .refused .ensures)
+    answers.execute-numbered _ _ _ _ _ _ _ (laws.refused (a .settings) (a .word) (a .pointer) (a .self) (a .store .now) _ (p10 .sources .ensures) _ (p7 .bad-sizes .ensures) _ (p6 .good-record .ensures) _ (p5 .is-kernel-mode .ensures) _ (p4 .pointer-refused .ensures) _ (p2 .execute-refusal .ensures) (p1 .if1 .taken) _ (c .refused .ensures))
 
 nop-requires : tie.Need-nop-requires
 nop-requires c κs = search needs
@@ -74,7 +75,7 @@ returns-2 c =
     let p13 = p10 .before .before .before in
     let p19 = p13 .before .before .before .before .before .before in
     let a = p19 .args in
-    laws.nop (a .settings) (a .word) (a .pointer) (a .self) (a .store .now) _ (p13 .sources .ensures) _ (p10 .bad-sizes .ensures) _ (p9 .good-record .ensures) _ (p8 .is-kernel-mode .ensures) _ (p7 .pointer-refused .ensures) _ (p5 .execute-refusal .ensures) (p4 .if1 .left) (p1 .match .keys1) _ (c .nop .ensures)
+    answers.execute-numbered _ _ _ _ _ _ _ (laws.nop (a .settings) (a .word) (a .pointer) (a .self) (a .store .now) _ (p13 .sources .ensures) _ (p10 .bad-sizes .ensures) _ (p9 .good-record .ensures) _ (p8 .is-kernel-mode .ensures) _ (p7 .pointer-refused .ensures) _ (p5 .execute-refusal .ensures) (p4 .if1 .left) (p1 .match .keys1) _ (c .nop .ensures))
 
 same-length : tie.Need-same-length
 same-length c = search needs
@@ -93,7 +94,7 @@ returns-3 c =
     let p17 = p14 .before .before .before in
     let p23 = p17 .before .before .before .before .before .before in
     let a = p23 .args in
-    laws.near-call (a .settings) (a .word) (a .pointer) (a .self) (a .store .now) _ (p17 .sources .ensures) _ (p14 .bad-sizes .ensures) _ (p13 .good-record .ensures) _ (p12 .is-kernel-mode .ensures) _ (p11 .pointer-refused .ensures) _ (p9 .execute-refusal .ensures) (p8 .if1 .left) (p5 .match .keys2) _ (p4 .low-u32 .ensures) _ _ (p2 .near-call .ensures)
+    answers.execute-numbered _ _ _ _ _ _ _ (laws.near-call (a .settings) (a .word) (a .pointer) (a .self) (a .store .now) _ (p17 .sources .ensures) _ (p14 .bad-sizes .ensures) _ (p13 .good-record .ensures) _ (p12 .is-kernel-mode .ensures) _ (p11 .pointer-refused .ensures) _ (p9 .execute-refusal .ensures) (p8 .if1 .left) (p5 .match .keys2) _ (p4 .low-u32 .ensures) _ _ (p2 .near-call .ensures))
 
 returns-4 : tie.Need-returns-4
 returns-4 c =
@@ -108,7 +109,7 @@ returns-4 c =
     let p14 = p11 .before .before .before in
     let p20 = p14 .before .before .before .before .before .before in
     let a = p20 .args in
-    laws.arithmetic (a .settings) (a .word) (a .pointer) (a .self) (a .store .now) _ (p14 .sources .ensures) _ (p11 .bad-sizes .ensures) _ (p10 .good-record .ensures) _ (p9 .is-kernel-mode .ensures) _ (p8 .pointer-refused .ensures) _ (p6 .execute-refusal .ensures) (p5 .if1 .left) (p2 .match .rest .0 .1) (p1 .if2 .taken) _ (c .arithmetic .ensures)
+    answers.execute-numbered _ _ _ _ _ _ _ (laws.arithmetic (a .settings) (a .word) (a .pointer) (a .self) (a .store .now) _ (p14 .sources .ensures) _ (p11 .bad-sizes .ensures) _ (p10 .good-record .ensures) _ (p9 .is-kernel-mode .ensures) _ (p8 .pointer-refused .ensures) _ (p6 .execute-refusal .ensures) (p5 .if1 .left) (p2 .match .rest .0 .1) (p1 .if2 .taken) _ (c .arithmetic .ensures))
 
 same-length-2 : tie.Need-same-length-2
 same-length-2 c = search needs
@@ -126,7 +127,7 @@ returns-5 c =
     let p15 = p12 .before .before .before in
     let p21 = p15 .before .before .before .before .before .before in
     let a = p21 .args in
-    laws.ret (a .settings) (a .word) (a .pointer) (a .self) (a .store .now) _ (p15 .sources .ensures) _ (p12 .bad-sizes .ensures) _ (p11 .good-record .ensures) _ (p10 .is-kernel-mode .ensures) _ (p9 .pointer-refused .ensures) _ (p7 .execute-refusal .ensures) (p6 .if1 .left) (p3 .match .rest .0 .1) (p3 .match .rest .1) (p2 .if2 .left) _ (c .ret .ensures)
+    answers.execute-numbered _ _ _ _ _ _ _ (laws.ret (a .settings) (a .word) (a .pointer) (a .self) (a .store .now) _ (p15 .sources .ensures) _ (p12 .bad-sizes .ensures) _ (p11 .good-record .ensures) _ (p10 .is-kernel-mode .ensures) _ (p9 .pointer-refused .ensures) _ (p7 .execute-refusal .ensures) (p6 .if1 .left) (p3 .match .rest .0 .1) (p3 .match .rest .1) (p2 .if2 .left) _ (c .ret .ensures))
 
 pub execute-spec : {M : Type 1} → statement M
 execute-spec =

@@ -1,5 +1,6 @@
 use borrow.Author.Needs.{needs}
 use Rattle.cycle.proofs.FetchLaws as laws
+use Rattle.cycle.proofs.AnswerLaws as answers
 use Rattle.cycle.proofs.State.fetch.Statement.{statement}
 use Rattle.cycle.proofs.State.fetch.Tie as tie
 
@@ -10,7 +11,7 @@ first-refusal-requires : tie.Need-first-refusal-requires
 first-refusal-requires c κs = search needs
 
 returns : tie.Need-returns
-returns c = search laws.refused
+returns c = answers.fetch-numbered _ _ _ _ _ (search laws.refused)
 
 super-pc-requires : tie.Need-super-pc-requires
 super-pc-requires c κs = search needs
@@ -54,7 +55,7 @@ returns-2 c =
     let p13 = p11 .before .before in
     let p16 = p13 .before .before .before in
     let a = p16 .args in
-    laws.done (a .settings) (a .word) (a .self) (a .store .now) _ (p13 .bad-sizes .ensures) _ (p11 .first-refusal .ensures) (p10 .if1 .left) _ (p8 .super-pc .ensures) _ (p7 .code-wanted .ensures) _ (p6 .either-word .ensures) _ (p5 .sub-pc .ensures) _ (p4 .code-bits .ensures) _ (p3 .empty-word .ensures) _ (p2 .either-word2 .ensures) _ (p1 .fetched .ensures) _ (c .code-answer .ensures)
+    answers.fetch-numbered _ _ _ _ _ (laws.done (a .settings) (a .word) (a .self) (a .store .now) _ (p13 .bad-sizes .ensures) _ (p11 .first-refusal .ensures) (p10 .if1 .left) _ (p8 .super-pc .ensures) _ (p7 .code-wanted .ensures) _ (p6 .either-word .ensures) _ (p5 .sub-pc .ensures) _ (p4 .code-bits .ensures) _ (p3 .empty-word .ensures) _ (p2 .either-word2 .ensures) _ (p1 .fetched .ensures) _ (c .code-answer .ensures))
 
 pub fetch-spec : {M : Type 1} → statement M
 fetch-spec =

@@ -1,5 +1,6 @@
 use borrow.Author.Needs.{needs}
 use Rattle.cycle.proofs.OperandsLaws as laws
+use Rattle.cycle.proofs.AnswerLaws as answers
 use Rattle.cycle.proofs.State.operands.Statement.{statement}
 use Rattle.cycle.proofs.State.operands.Tie as tie
 
@@ -23,7 +24,7 @@ returns c =
     let p5 = p4 .before in
     let p9 = p5 .before .before .before .before in
     let a = p9 .args in
-    laws.refused (a .settings) (a .self) (a .store .now) _ (p5 .bad-sizes .ensures) _ (p4 .good-record .ensures) _ (p3 .lacks-stack-page .ensures) _ (p1 .first-refusal .ensures) (c .if1 .taken)
+    answers.operands-numbered _ _ _ _ (laws.refused (a .settings) (a .self) (a .store .now) _ (p5 .bad-sizes .ensures) _ (p4 .good-record .ensures) _ (p3 .lacks-stack-page .ensures) _ (p1 .first-refusal .ensures) (c .if1 .taken))
 
 wrapping-add-u32-requires : tie.Need-wrapping-add-u32-requires
 wrapping-add-u32-requires c κs = search needs
@@ -45,7 +46,7 @@ returns-2 c =
     let p9 = p8 .before in
     let p13 = p9 .before .before .before .before in
     let a = p13 .args in
-    laws.done (a .settings) (a .self) (a .store .now) _ (p9 .bad-sizes .ensures) _ (p8 .good-record .ensures) _ (p7 .lacks-stack-page .ensures) _ (p5 .first-refusal .ensures) (p4 .if1 .left) _ (p2 .wrapping-add-u32 .ensures) _ (p1 .places .ensures) _ (c .addressed .ensures)
+    answers.operands-numbered _ _ _ _ (laws.done (a .settings) (a .self) (a .store .now) _ (p9 .bad-sizes .ensures) _ (p8 .good-record .ensures) _ (p7 .lacks-stack-page .ensures) _ (p5 .first-refusal .ensures) (p4 .if1 .left) _ (p2 .wrapping-add-u32 .ensures) _ (p1 .places .ensures) _ (c .addressed .ensures))
 
 pub operands-spec : {M : Type 1} → statement M
 operands-spec =

@@ -1,0 +1,259 @@
+-- The number of each stage's answer is that of the first check that holds. Assumes nothing.
+use Prim.Native.Nat.{ℕ, _-_, _/_, _≤_, _<_}
+use mathlib.Core.Bool.{Bool, true, false, not, cond, _&&_, _||_}
+use mathlib.Core.Path.{_≡_, refl, sym, ap, _∙_, subst}
+use mathlib.Core.List.{List, [], _∷_, _++_}
+use native.Mathlib.Omega.{arith}
+use lib.Dec.{T, eqb, leb, ltb}
+use lib.ListN.{length}
+use borrow.Author.Tests.{eqb-true, eqb-false, eq-eqb, lt-ltb, ltb-false, leb-true, not-false}
+use Rattle.u256.specs.declared.U256.{U256}
+use Rattle.frame.specs.declared.ReadAnswer.{ReadAnswer}
+use Rattle.frame.specs.Refusal.{Check, firstOf, _refuses_}
+use Rattle.frame.specs.Row.{rowWidth, goodRow}
+use Rattle.frame.specs.Store.{wholeRows, readOf}
+use Rattle.rules.specs.declared.Settings.{Settings}
+use Rattle.rules.specs.declared.Records.{Records}
+use Rattle.rules.specs.Record.{goodRecord}
+use Rattle.rules.specs.Ret.{ergsPast, isShrunk}
+use Rattle.rules.proofs.RefusalLaws.{clear, numbered}
+use Rattle.cycle.specs.declared.State.{State}
+use Rattle.cycle.specs.declared.Fetched.{Fetched}
+use Rattle.cycle.specs.declared.Decoded.{Decoded}
+use Rattle.cycle.specs.declared.Addressed.{Addressed}
+use Rattle.cycle.specs.declared.Executed.{Executed}
+use Rattle.cycle.specs.declared.FetchAnswer.{FetchAnswer}
+use Rattle.cycle.specs.declared.DecodeAnswer.{DecodeAnswer}
+use Rattle.cycle.specs.declared.OperandsAnswer.{OperandsAnswer}
+use Rattle.cycle.specs.State.{addressed, isEnded, badStore, outOfTurn, settled}
+use Rattle.cycle.specs.Fetch.{codeAnswer, fetchRefusal, fetchDone, fetchOf}
+use Rattle.cycle.specs.Decode.{decodeRefusal, decodeDone, decodeOf}
+use Rattle.cycle.specs.Operands.{recordOf, operandsRefusal, operandsDone, operandsOf}
+use Rattle.cycle.specs.Helpers.{lateIn, refusedWith, nopRefusal, nopDone, nopOf}
+use Rattle.cycle.specs.NearCall.{callRefusalIn, nearCallDone, nearCallOf}
+use Rattle.cycle.specs.Ret.{closeRefusalIn, closeDone, closeOf, returnTo, returnOf}
+use Rattle.cycle.specs.Arithmetic.{arithmeticRefusalIn, arithmeticDone, arithmeticOf}
+use Rattle.cycle.specs.Execute.{sourcesIn, pointerIn, wantIn, executeDone, executeOf, executeStore}
+use Rattle.cycle.specs.Answers.{fetchNumber, decodeNumber, operandsNumber, executeNumber, topRow, topFrame, badPubdata, badReverts, lateWrite, executeChecks}
+use Rattle.cycle.proofs.HelperLaws.{or-parts}
+
+-- what is settled by a number has that number
+settled-number : {A : Type 0} (number : A → ℕ) (n : ℕ) (refused : ℕ → A) (done : A) → number (refused n) ≡ n → number done ≡ 0
+    → number (settled n refused done) ≡ n
+settled-number number n refused done r d = go (eqb n 0) refl
+  where
+    go : (z : Bool) → eqb n 0 ≡ z → number (cond z done (refused n)) ≡ n
+    go true e = d ∙ sym (eqb-true n 0 e)
+    go false e = r
+
+-- ---- fetch, decode, operands
+code-number : (ended pending : Bool) (bits : ℕ) → fetchNumber (codeAnswer ended pending bits) ≡ 0
+code-number true pending bits = refl
+code-number false true bits = refl
+code-number false false bits = refl
+
+pub fetch-numbered : (settings : Settings) (word : U256) (s : State) (store : List ℕ) (r : Fetched) → r ≡ fetchOf settings word s store
+    → (r ≡ fetchOf settings word s store) × (fetchNumber (r .answer) ≡ fetchRefusal settings s store)
+unfolding fetchOf fetchDone
+fetch-numbered settings word s store r e = (
+  e,
+  ap (λ (f : Fetched). fetchNumber (f .answer)) e
+      ∙ settled-number (λ (f : Fetched). fetchNumber (f .answer)) (fetchRefusal settings s store)
+      (λ n. record { state = s; answer = FetchAnswer.Refused n })
+      (fetchDone s word)
+      refl
+      (code-number (isEnded s) (s .«pending_exception») _),
+)
+
+pub decode-numbered : (settings : Settings) (records : Records) (s : State) (store : List ℕ) (r : Decoded) → r ≡ decodeOf settings records s store
+    → (r ≡ decodeOf settings records s store) × (decodeNumber (r .answer) ≡ decodeRefusal settings records s store)
+unfolding decodeOf decodeDone
+decode-numbered settings records s store r e = (
+  e,
+  ap (λ (d : Decoded). decodeNumber (d .answer)) e
+      ∙ settled-number (λ (d : Decoded). decodeNumber (d .answer)) (decodeRefusal settings records s store)
+      (λ n. record { state = s; answer = DecodeAnswer.Refused n })
+      (decodeDone settings records s)
+      refl
+      refl,
+)
+
+pub operands-numbered : (settings : Settings) (s : State) (store : List ℕ) (r : Addressed) → r ≡ operandsOf settings s store
+    → (r ≡ operandsOf settings s store) × (operandsNumber (r .answer) ≡ operandsRefusal settings s store)
+unfolding operandsOf operandsDone
+operands-numbered settings s store r e = (
+  e,
+  ap (λ (a : Addressed). operandsNumber (a .answer)) e
+      ∙ settled-number (λ (a : Addressed). operandsNumber (a .answer)) (operandsRefusal settings s store)
+      (λ n. record { state = s; answer = OperandsAnswer.Refused n })
+      (operandsDone 16 s)
+      refl
+      refl,
+)
+
+-- ---- execute
+-- checks in two parts
+parts : (cs ds : List Check) → T (numbered cs) → firstOf (cs ++ ds) ≡ cond (eqb (firstOf cs) 0) (firstOf ds) (firstOf cs)
+parts [] ds t = refl
+parts (c ∷ cs) ds t = go (c .holds) (eqb (c .number) 0) refl t (λ t. parts cs ds t)
+  where
+    go : (b z : Bool) → eqb (c .number) 0 ≡ z → T (not z && numbered cs)
+        → (T (numbered cs) → firstOf (cs ++ ds) ≡ cond (eqb (firstOf cs) 0) (firstOf ds) (firstOf cs))
+        → cond b (c .number) (firstOf (cs ++ ds)) ≡ cond (eqb (cond b (c .number) (firstOf cs)) 0) (firstOf ds) (cond b (c .number) (firstOf cs))
+    go b true e t rest = absurd t
+    go true false e t rest = rw e
+    go false false e t rest = rest t
+
+either-order : (a b : Bool) → (a || b) ≡ (b || a)
+either-order true true = refl
+either-order true false = refl
+either-order false true = refl
+either-order false false = refl
+
+number : Executed → ℕ
+number r = executeNumber (r .answer)
+
+-- a saved row that the store has
+has-row : (limit depth words : ℕ) → (eqb limit 0 || ltb (words / rowWidth) limit || ltb limit depth) ≡ false → (depth ≡ 0 → ⊥) → depth - 1 < words / rowWidth
+has-row limit depth words e n =
+    let p = or-parts (eqb limit 0 || ltb (words / rowWidth) limit) (ltb limit depth) e in
+    let q = or-parts (eqb limit 0) (ltb (words / rowWidth) limit) (p .0) in
+    omega (arith, ltb-false (words / rowWidth) limit (q .1), ltb-false limit depth (p .1), n)
+
+module _ (settings : Settings) (word : U256) (pointer : Bool) (s : State) (store : List ℕ) where
+  abbrev op : ℕ
+  op = recordOf s .operation
+
+  -- the checks of every operation, and those of some
+  abbrev first : List Check
+  first =
+      (badStore settings s store refuses 1)
+      ∷ (outOfTurn addressed s refuses 2)
+      ∷ (not (goodRecord (recordOf s)) refuses 3)
+      ∷ (eqb op 5 refuses 5)
+      ∷ (pointerIn word pointer s refuses 6)
+      ∷ []
+
+  abbrev rest : Bool → Bool → Bool → List Check
+  rest ret call sum =
+      ((ret && not (s .current .«is_local_frame»)) refuses 7)
+      ∷ ((ret && (isEnded s || not (goodRow 16 (topRow s store)))) refuses 8)
+      ∷ ((call && eqb (s .depth) (settings .«depth_limit»)) refuses 9)
+      ∷ ((ret && badPubdata s store) refuses 10)
+      ∷ ((ret && badReverts s) refuses 11)
+      ∷ ((ret && ergsPast (topFrame s store .«ergs_remaining») (s .current .«ergs_remaining»)) refuses 12)
+      ∷ ((ret && isShrunk (topFrame s store) (s .current)) refuses 13)
+      ∷ ((sum && lateWrite s || lateIn settings s) refuses 14)
+      ∷ []
+
+  nop-number : number (nopOf settings s) ≡ firstOf (rest false false false)
+  unfolding number nopOf nopDone
+  nop-number = settled-number number (nopRefusal settings s) (refusedWith s) (nopDone settings s) refl refl
+
+  sum-number : (a b : U256) → number (arithmeticOf settings a b s) ≡ firstOf (rest false false true)
+  unfolding number arithmeticOf arithmeticDone
+  sum-number a b =
+      settled-number number (arithmeticRefusalIn settings s) (refusedWith s) (arithmeticDone settings a b s) refl refl
+      ∙ ap (λ (late : Bool). cond late 14 0) (either-order (lateIn settings s) (lateWrite s))
+
+  call-number : (want : ℕ) → number (nearCallOf settings want s) ≡ firstOf (rest false true false)
+  unfolding number nearCallOf nearCallDone
+  call-number want = settled-number number (callRefusalIn settings s) (refusedWith s) (nearCallDone settings want s) refl refl
+
+  close-number : number (closeOf settings (topFrame s store) s) ≡ closeRefusalIn settings (topFrame s store) s
+  unfolding number closeOf closeDone
+  close-number = settled-number number (closeRefusalIn settings (topFrame s store) s) (refusedWith s) (closeDone settings (topFrame s store) s) refl refl
+
+  -- by whether the top row is good
+  read-number : ltb (s .depth - 1) (wholeRows store) ≡ true
+      → number (returnTo settings s (readOf 16 store (s .depth - 1)))
+      ≡ cond (not (goodRow 16 (topRow s store))) 8 (closeRefusalIn settings (topFrame s store) s)
+  unfolding number readOf
+  read-number e = rw e (go (goodRow 16 (topRow s store)))
+    where
+      go : (good : Bool)
+          → number (returnTo settings s (cond good (ReadAnswer.Good (topFrame s store)) ReadAnswer.NotGood))
+          ≡ cond (not good) 8 (closeRefusalIn settings (topFrame s store) s)
+      go true = close-number
+      go false = refl
+
+  return-number : badStore settings s store ≡ false → number (returnOf settings s store) ≡ firstOf (rest true false false)
+  unfolding number returnOf
+  return-number sized = go (s .current .«is_local_frame») (eqb (s .depth) 0) refl
+    where
+      to : Executed
+      to = returnTo settings s (readOf 16 store (s .depth - 1))
+
+      go : (local ended : Bool) → eqb (s .depth) 0 ≡ ended
+          → number (settled (cond (not local) 7 (cond ended 8 0)) (refusedWith s) to)
+          ≡ cond (not local) 7 (cond (ended || not (goodRow 16 (topRow s store))) 8 (closeRefusalIn settings (topFrame s store) s))
+      go false ended e = refl
+      go true true e = refl
+      go true false e =
+          read-number (lt-ltb (s .depth - 1) (wholeRows store) (has-row (settings .«depth_limit») (s .depth) (length store) sized (eqb-false (s .depth) 0 e)))
+
+  -- the choice of the operation
+  sum-tests : (eqb op 1 || eqb op 2) ≡ true → (eqb op 4 ≡ false) × (eqb op 3 ≡ false)
+  sum-tests = go (eqb op 1) (eqb op 2) refl refl
+    where
+      go : (a b : Bool) → eqb op 1 ≡ a → eqb op 2 ≡ b → (a || b) ≡ true → (eqb op 4 ≡ false) × (eqb op 3 ≡ false)
+      go true b e f q = let o = eqb-true op 1 e in (ap (λ (n : ℕ). eqb n 4) o, ap (λ (n : ℕ). eqb n 3) o)
+      go false true e f q = let o = eqb-true op 2 f in (ap (λ (n : ℕ). eqb n 4) o, ap (λ (n : ℕ). eqb n 3) o)
+      go false false e f q = absurd (subst T (sym q) tt)
+
+  four : op ≤ 5 → eqb op 0 ≡ false → (eqb op 1 || eqb op 2) ≡ false → eqb op 3 ≡ false → eqb op 5 ≡ false → eqb op 4 ≡ true
+  four l e0 e12 e3 e5 =
+      let p = or-parts (eqb op 1) (eqb op 2) e12 in
+      eq-eqb op 4 (omega (arith, eqb-false op 0 e0, eqb-false op 1 (p .0), eqb-false op 2 (p .1), eqb-false op 3 e3, eqb-false op 5 e5))
+
+  abbrev a : U256
+  a = sourcesIn word pointer s .src0 .value
+
+  abbrev b : U256
+  b = sourcesIn word pointer s .src1 .value
+
+  chosen : badStore settings s store ≡ false → op ≤ 5 → eqb op 5 ≡ false
+      → (p q r : Bool) → eqb op 0 ≡ p → (eqb op 1 || eqb op 2) ≡ q → eqb op 3 ≡ r
+      → number (cond p (nopOf settings s) (cond q (arithmeticOf settings a b s) (cond r (nearCallOf settings (wantIn word pointer s) s) (returnOf settings s store))))
+      ≡ firstOf (rest (eqb op 4) (eqb op 3) (eqb op 1 || eqb op 2))
+  chosen sized l e5 true q r e0 e12 e3 =
+      let o = eqb-true op 0 e0 in
+      nop-number ∙ ap (λ (n : ℕ). firstOf (rest (eqb n 4) (eqb n 3) (eqb n 1 || eqb n 2))) (sym o)
+  chosen sized l e5 false true r e0 e12 e3 = rw (sum-tests e12 .0, sum-tests e12 .1, e12) (sum-number a b)
+  chosen sized l e5 false false true e0 e12 e3 =
+      let o = eqb-true op 3 e3 in
+      call-number (wantIn word pointer s) ∙ ap (λ (n : ℕ). firstOf (rest (eqb n 4) (eqb n 3) (eqb n 1 || eqb n 2))) (sym o)
+  chosen sized l e5 false false false e0 e12 e3 = rw (four l e0 e12 e3 e5, e3, e12) (return-number sized)
+
+  small : goodRecord (recordOf s) ≡ true → op ≤ 5
+  small g =
+      let r = recordOf s in
+      leb-true op 5
+      (left (leb (r .operation) 5) (leb (r .«return_kind») 2) (leb (r .condition) 7) (leb (r .«source_kind») 5) (leb (r .«destination_kind») 5)
+      (not (eqb (r .«destination_kind») 1)) (not (eqb (r .«destination_kind») 4)) (leb (r .src0) 15) (leb (r .src1) 15) (leb (r .dst0) 15) g)
+    where
+      left : (a b c d e f g h i j : Bool) → (a && b && c && d && e && f && g && h && i && j) ≡ true → a ≡ true
+      left true b c d e f g h i j q = refl
+      left false b c d e f g h i j q = q
+
+  execute-number : number (executeOf settings word pointer s store) ≡ firstOf (executeChecks settings word pointer s store)
+  unfolding number executeOf executeDone
+  execute-number =
+      go (eqb (firstOf first) 0) refl
+      ∙ sym (parts first (rest (eqb op 4) (eqb op 3) (eqb op 1 || eqb op 2)) tt)
+    where
+      go : (z : Bool) → eqb (firstOf first) 0 ≡ z
+          → number (cond z (executeDone settings word pointer s store) (refusedWith s (firstOf first)))
+          ≡ cond z (firstOf (rest (eqb op 4) (eqb op 3) (eqb op 1 || eqb op 2))) (firstOf first)
+      go true e =
+          let c = clear first tt (eqb-true (firstOf first) 0 e) in
+          chosen (c .0) (small (not-false (goodRecord (recordOf s)) (c .1 .1 .0))) (c .1 .1 .1 .0) (eqb op 0) (eqb op 1 || eqb op 2) (eqb op 3) refl refl refl
+      go false e = refl
+
+  pub execute-numbered : (r : Executed) (after : List ℕ)
+      → (r ≡ executeOf settings word pointer s store) × (after ≡ executeStore settings word pointer s store)
+      → (r ≡ executeOf settings word pointer s store)
+      × (after ≡ executeStore settings word pointer s store)
+      × (executeNumber (r .answer) ≡ firstOf (executeChecks settings word pointer s store))
+  unfolding number
+  execute-numbered r after e = (e .0, e .1, ap number (e .0) ∙ execute-number)
