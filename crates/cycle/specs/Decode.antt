@@ -1,6 +1,6 @@
--- Decode. Document 01: "Price is 0 when ended. Price above ergs: ergs become 0 and NOT_ENOUGH_ERGS is set. Some flag set: the panic record is kept. Otherwise
--- condition false: the nop record. The delayed changes show from here. The answer gives the flags and the charge." "A charge is the smaller of the price and the
--- ergs held."
+-- Decode. Document 01: "Price is 0 when ended. Price above ergs: ergs become 0 and NOT_ENOUGH_ERGS is set." "Some flag set: the panic record is kept.
+-- Otherwise condition false: the nop record. The delayed changes show from here. The answer gives the flags and the charge." Demand 3: "A charge is the smaller of
+-- the price and the ergs held."
 use Prim.Native.Nat.{ℕ, _-_, min}
 use mathlib.Core.Bool.{false, cond}
 use mathlib.Core.List.{List, [], _∷_}

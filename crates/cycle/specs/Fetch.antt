@@ -1,5 +1,5 @@
 -- Fetch. Document 01: "A query says whether a code read is wanted, and from which page and index: page or super pc changed, and not ended. It reads the state alone
--- and never refuses. Fetch takes that word, not looked at when none was wanted. The answer is 64 bits of code, or exception (pending), or nop (ended)."
+-- and never refuses. Fetch takes that word, not looked at when none was wanted." "The answer is 64 bits of code, or exception (pending), or nop (ended)."
 use Prim.Native.Nat.{ℕ}
 use mathlib.Core.Bool.{Bool, cond, _&&_}
 use mathlib.Core.List.{List, [], _∷_}
@@ -30,7 +30,7 @@ queryOf s = locationIf (codeWanted s) (s .current .«code_page») (superPc (s .c
 abbrev pub codeAnswer : Bool → Bool → ℕ → FetchAnswer
 codeAnswer ended pending bits = cond ended FetchAnswer.Nop (cond pending FetchAnswer.Exception (FetchAnswer.Code bits))
 
--- "refusal 4: ended and pending"
+-- refusal 4, "ended and pending"
 abbrev pub fetchRefusal : Settings → State → List ℕ → ℕ
 fetchRefusal settings s store =
     firstOf ((badStore settings s store refuses 1) ∷ (outOfTurn ready s refuses 2) ∷ ((isEnded s && s .«pending_exception») refuses 4) ∷ [])

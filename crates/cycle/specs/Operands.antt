@@ -1,4 +1,4 @@
--- Operands. Document 01: "Source first, then destination on the changed sp. Stack page is base plus 1. Nop reads nothing but moves sp." The answer is where the
+-- Operands. Document 01: "Source first, then destination on the changed sp." "Stack page is base plus 1. Nop reads nothing but moves sp." The answer is where the
 -- source is read, and where the destination is to be written.
 use Prim.Native.Nat.{ℕ, _+_}
 use mathlib.Core.Bool.{not}
@@ -26,7 +26,7 @@ stackPage s = s .current .«base_memory_page» + 1
 abbrev pub placesIn : ℕ → State → Places
 placesIn w s = placesOf w (recordOf s) (s .registers) (stackPage s) (s .current .«code_page») (s .current .sp)
 
--- refusal 3 is about the kept record; "14: page of a stack kind above 32 bits"
+-- refusal 3 is about the kept record; 14 is "page of a stack kind", above 32 bits
 abbrev pub operandsRefusal : Settings → State → List ℕ → ℕ
 operandsRefusal settings s store =
     firstOf

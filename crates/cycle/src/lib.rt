@@ -23,8 +23,8 @@ pub struct Kept {
     pub write: Location,
 }
 
-// The fields of the Rust's `VmLocalState` that the stages use, the current frame, and what one stage leaves to the next. A register's pointer bit stands apart from
-// its word, and the order leaves no hole of 3, 5, 6 or 7 bytes: either would slow each copy down.
+// The fields of the Rust's `VmLocalState` that the stages use, the current frame, and what one stage leaves to the next. A pointer bit
+// beside its word, or a hole of 3, 5, 6 or 7 bytes, would slow each copy down.
 pub struct State {
     pub registers: [U256; 15],
     pub current: Frame,

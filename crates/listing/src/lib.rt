@@ -15,7 +15,7 @@ use table::Start;
 // Room for the longest listing: 20 bytes for each byte of the longest input, and 128 for the names line and what ends the listing.
 pub const ROOM: usize = 1310848;
 
-// How far a listing has come: the next line of the input, the position on the buffer, the number of the next cycle, and whether it goes on.
+// How far a listing has come: where the next line of the input begins, the position on the buffer, the number of the next cycle, and whether it goes on.
 pub struct Progress {
     pub state: State,
     pub next: usize,

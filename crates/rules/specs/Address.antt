@@ -28,7 +28,7 @@ onStack page index = Location.At 1 page index
 abbrev pub inCode : ℕ → ℕ → Location
 inCode page index = Location.At 2 page index
 
--- refusal 14: "page of a stack kind above 32 bits", with "stack page is base plus 1"
+-- refusal 14: "page of a stack kind", which "is base plus 1", above 32 bits
 abbrev pub lacksStackPage : Record → ℕ → Bool
 lacksStackPage r base = (isStackKind (r .«source_kind») || isStackKind (r .«destination_kind»)) && leb (2 ^ 32) (base + 1)
 
@@ -56,8 +56,8 @@ destinationAt w kind stackPage sp vaddr = record {
 }
 
 -- "Nop reads nothing"
-abbrev pub readOf : Bool → Location → Location
-readOf nop source = cond nop Location.None source
+abbrev pub sourceRead : Bool → Location → Location
+sourceRead nop source = cond nop Location.None source
 
 -- "Source first, then destination on the changed sp"
 abbrev pub sourceOf : ℕ → Record → List U256 → ℕ → ℕ → ℕ → Located
@@ -70,7 +70,7 @@ destinationOf w r registers stackPage sp =
 
 unfoldable pub placesOf : ℕ → Record → List U256 → ℕ → ℕ → ℕ → Places
 placesOf w r registers stackPage codePage sp = record {
-  source = readOf (isNop r) (sourceOf w r registers stackPage codePage sp .location);
+  source = sourceRead (isNop r) (sourceOf w r registers stackPage codePage sp .location);
   destination = destinationOf w r registers stackPage (sourceOf w r registers stackPage codePage sp .sp) .location;
   sp = destinationOf w r registers stackPage (sourceOf w r registers stackPage codePage sp .sp) .sp;
 }

@@ -1,5 +1,5 @@
--- Add and sub, from the specification: the sum or difference of src0 and src1 modulo 2 ^ 256, and with set flags overflow, equal where the result is 0, and greater
--- where it is neither.
+-- Add and sub, as in the Rust's `add.rs` and `sub.rs`: the sum or difference of src0 and src1 modulo 2 ^ 256, and with set flags overflow, equal where the result is
+-- 0, and greater where it is neither.
 use Prim.Native.Nat.{ℕ}
 use mathlib.Core.Bool.{Bool, not, cond, _&&_}
 use lib.Dec.{eqb}

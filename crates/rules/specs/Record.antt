@@ -1,5 +1,5 @@
--- Instruction records. Document 01: "Operation (0 nop, 1 add, 2 sub, 3 near call, 4 return, 5 other); return kind (0 ok, 1 revert, 2 panic); condition 0 to 7;
--- source and destination kind (0 register, 1 immediate, 2 push/pop, 3 stack offset, 4 code page, 5 absolute stack); registers src0, src1, dst0".
+-- Instruction records. Document 01: "Operation (0 nop, 1 add, 2 sub, 3 near call, 4 return, 5 other); return kind (0 ok, 1 revert, 2 panic); condition 0 to 7
+-- in the order of the Rust's `match`; source and destination kind (0 register, 1 immediate, 2 push/pop, 3 stack offset, 4 code page, 5 absolute stack); registers src0, src1, dst0".
 use mathlib.Core.Bool.{Bool, not, _&&_, _||_}
 use lib.Dec.{leb, eqb}
 use Rattle.rules.specs.declared.Record.{Record}

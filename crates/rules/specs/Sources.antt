@@ -25,15 +25,15 @@ firstSource r register word pointer =
     (cond (isNop r) emptyValue
     (record { value = word; «is_pointer» = pointer })))
 
-abbrev pub valueOf : List U256 → List Bool → ℕ → PrimitiveValue
-valueOf words pointers n = record { value = registerOf words n; «is_pointer» = pointerOf pointers n }
+abbrev pub registerValue : List U256 → List Bool → ℕ → PrimitiveValue
+registerValue words pointers n = record { value = registerOf words n; «is_pointer» = pointerOf pointers n }
 
 -- src0 and src1 after the swap
 unfoldable pub sourcesOf : Record → List U256 → List Bool → U256 → Bool → Sources
 sourcesOf r words pointers word pointer =
     cond (r .swap)
-    (record { src0 = valueOf words pointers (r .src1); src1 = firstSource r (valueOf words pointers (r .src0)) word pointer })
-    (record { src0 = firstSource r (valueOf words pointers (r .src0)) word pointer; src1 = valueOf words pointers (r .src1) })
+    (record { src0 = registerValue words pointers (r .src1); src1 = firstSource r (registerValue words pointers (r .src0)) word pointer })
+    (record { src0 = firstSource r (registerValue words pointers (r .src0)) word pointer; src1 = registerValue words pointers (r .src1) })
 
 abbrev pub pointerRefused : Bool → Record → Bool → Bool → Bool
 pointerRefused kernel r p0 p1 = not kernel && (p0 && not (r .«src0_may_be_pointer») || p1 && not (r .«src1_may_be_pointer»))

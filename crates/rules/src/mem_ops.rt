@@ -1,6 +1,6 @@
 // Where an operand lies, after the Rust's `mem_ops.rs`.
 ghost use mathlib.Core.Path.{_≡_};
-ghost use Rattle.rules.specs.Address.{vaddrOf, isStackKind, lacksStackPage, sourceAt, destinationAt, readOf, placesOf};
+ghost use Rattle.rules.specs.Address.{vaddrOf, isStackKind, lacksStackPage, sourceAt, destinationAt, sourceRead, placesOf};
 use crate::Located;
 use crate::Location;
 use crate::Places;
@@ -97,7 +97,7 @@ pub fn destination_at(kind: u8, stack_page: u32, sp: u16, vaddr: u16) -> Located
 
 // Nop reads nothing.
 fn read_of(nop: bool, source: Location) -> Location
-    ensures { λ r. ⌜ r ≡ readOf nop source ⌝ }
+    ensures { λ r. ⌜ r ≡ sourceRead nop source ⌝ }
 {
     if nop { Location::None } else { source }
 }

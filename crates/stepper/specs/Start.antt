@@ -1,5 +1,6 @@
--- States and records that are 0 but for what is given: the start of nearbook's listing and the edges. Document 01: "It starts at depth 1 in a far frame, an ergs-free
--- frame below. All of the state, records and words that no line sets is 0 or no".
+-- States and records that are 0 but for what is given: the start of nearbook's listing and the edges. Document 01: "multiplier 1, time step 4"; "It starts at depth 1
+-- in a far frame, an ergs-free frame below. All of the state, records and words that no line sets is 0 or no, but for the masked records' operations and a call's
+-- register."
 use Prim.Native.Nat.{ℕ, _*_}
 use mathlib.Core.Bool.{Bool, false}
 use mathlib.Core.List.{List}

@@ -1,4 +1,4 @@
-// States and records that are 0 or no but for what is given: where a listing starts, and the edges.
+// States and records that are 0 or no but for what is given, depth 1, time step 4 and the masked records' operations: where a listing starts, and the edges.
 ghost use mathlib.Core.Path.{_≡_};
 ghost use mathlib.Core.Bool.{false};
 ghost use Rattle.cycle.specs.Effects.{noRecord};
