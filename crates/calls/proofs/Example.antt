@@ -12,6 +12,7 @@ use lib.ListN.{take, drop}
 use Rattle.u256.specs.U256.{lowOf}
 use Rattle.frame.specs.Fields.{withErgs, withSp, withPc}
 use Rattle.frame.specs.Kernel.{kernelMode}
+use Rattle.frame.specs.Row.{rowOf, frameOf}
 use Rattle.frame.specs.Store.{savedStore, readOf, savedErgs}
 use Rattle.registers.specs.Registers.{emptyWord}
 use Rattle.signed.specs.Signed.{checkedOf, wordOf, signedOf}
@@ -38,7 +39,7 @@ use Rattle.lists.specs.Machine.{Outcome, nearCall, chargeOf}
 use Rattle.lists.specs.Lists.{Call, fetch, decode, operands, execute, Event, called, trace, finishedOf, Cycle, eventsOf, charge, charges, operation, opened, closed, sum, before, result, outcomeOf, InTurn}
 use Rattle.lists.specs.Claims.{ClosesWithLast, CallerResumes, span}
 use Rattle.lists.proofs.Resume.{callers-resume}
-use Rattle.calls.specs.Core.{core, executeOutcome}
+use Rattle.calls.specs.Core.{lastingOf, core, executeOutcome}
 use Rattle.calls.proofs.CoreLaws.{laws}
 use Rattle.stepper.specs.Start.{word, instruction, recordsOf, startState, settingsOf, emptyStore}
 
@@ -148,3 +149,11 @@ resumes = callers-resume core laws listing start (emptyStore 4) call (add ∷ []
 pub resumed-figures : (core .ergs (before core call) ≡ 994) × (core .ergs (result core close .state) ≡ 958) × (charges core calling ≡ 36)
 unfolding charge charges sum finishedOf trace chargeOf withErgs withSp withPc kernelMode readOf lowOf checkedOf wordOf signedOf sumOf differenceOf isZero codeBits badRecords errorFlags sourceAt destinationAt placesOf sourcesOf callerOf openedOf resumedWith resumedOf savedStore flagsAfter finishedState movedState writtenState switchedState fetchedState fetchDone fetchOf decodedState decodeDone decodeOf addressedState operandsDone operandsOf nopDone nopOf nearCallDone nearCallOf nearCallStore arithmeticDone arithmeticOf closeDone closeOf returnOf executeDone executeOf executeStore
 resumed-figures = (refl, refl, refl)
+
+-- ---- what lasts of a frame, on one whose words all differ: all but sp, pc, ergs, the two heap bounds and pubdata
+abbrev words : List ℕ
+words = 1 ∷ 2 ∷ 3 ∷ 4 ∷ 5 ∷ 6 ∷ 7 ∷ 8 ∷ 9 ∷ 10 ∷ 11 ∷ 12 ∷ 13 ∷ 14 ∷ 15 ∷ 16 ∷ 17 ∷ 18 ∷ 19 ∷ 20 ∷ 21 ∷ 22 ∷ 23 ∷ 24 ∷ 1 ∷ 1 ∷ 27 ∷ 28 ∷ 29 ∷ 30 ∷ 31 ∷ 32 ∷ 33 ∷ 34 ∷ []
+
+pub lasts : rowOf (lastingOf (frameOf words)) ≡ 1 ∷ 2 ∷ 3 ∷ 4 ∷ 5 ∷ 6 ∷ 7 ∷ 8 ∷ 9 ∷ 10 ∷ 11 ∷ 12 ∷ 13 ∷ 14 ∷ 15 ∷ 16 ∷ 17 ∷ 0 ∷ 0 ∷ 20 ∷ 0 ∷ 22 ∷ 23 ∷ 24 ∷ 1 ∷ 1 ∷ 27 ∷ 28 ∷ 29 ∷ 30 ∷ 0 ∷ 0 ∷ 0 ∷ 34 ∷ []
+unfolding lastingOf wordOf signedOf
+lasts = refl

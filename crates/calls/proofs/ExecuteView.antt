@@ -4,7 +4,7 @@ use mathlib.Core.Bool.{Bool, true, false, not, cond, _&&_, _||_}
 use mathlib.Core.Path.{_≡_, refl, ap, sym, _∙_, subst}
 use mathlib.Core.List.{List, [], _∷_}
 use native.Mathlib.Omega.{arith}
-use native.Mathlib.Nat.{add-zero, sub-add-cancel}
+use native.Mathlib.Nat.{add-zero, sub-add-cancel, mod-add-div}
 use native.Mathlib.Numerals.{add-one}
 use lib.Dec.{T, eqb, leb, ltb}
 use lib.ListN.{length}
@@ -16,7 +16,7 @@ use Rattle.frame.specs.declared.ReadAnswer.{ReadAnswer}
 use Rattle.frame.specs.Fields.{withPc}
 use Rattle.frame.specs.Kernel.{kernelMode}
 use Rattle.frame.specs.Refusal.{Check, firstOf, _refuses_}
-use Rattle.frame.specs.Row.{frameOf, goodRow}
+use Rattle.frame.specs.Row.{rowOf, frameOf, goodRow}
 use Rattle.frame.specs.Store.{wholeRows, rowAt, savedStore, readOf}
 use Rattle.frame.proofs.StoreLaws.{saved-row, saved-below}
 use Rattle.rules.specs.declared.Settings.{Settings}
@@ -40,7 +40,7 @@ use Rattle.lists.specs.Machine as machines
 use Rattle.lists.specs.Machine.{Outcome}
 use Rattle.lists.specs.Lists.{execute}
 use Rattle.lists.specs.Laws.{Advances, Performs}
-use Rattle.calls.specs.Core.{core, ExecuteInput, executeRefused, executeOutcome, stageOf, operationOf}
+use Rattle.calls.specs.Core.{core, ExecuteInput, executeRefused, executeOutcome, stageOf, operationOf, lastingOf}
 use Rattle.calls.specs.Answers.{isOneOf, executeNumbers}
 use Rattle.calls.proofs.Views.{View, refused, done, by-number, both, within, numbersIn, listed}
 use Rattle.calls.proofs.Stages.{turn}
@@ -57,6 +57,17 @@ passed-le wanted held = go (eqb wanted 0) (ltb held wanted) refl
 bit-back : (b : Bool) → eqb (boolByte b) 1 ≡ b
 bit-back true = refl
 bit-back false = refl
+
+-- what lasts of a frame is in its row
+lasting-row : (f : Frame) → lastingOf (frameOf (rowOf f)) ≡ lastingOf f
+unfolding lastingOf
+lasting-row f =
+    rw (
+      bit-back (f .«is_static»),
+      bit-back (f .«is_local_frame»),
+      mod-add-div (f .«context_u128_value» .low) (2 ^ 32),
+      mod-add-div (f .«context_u128_value» .high) (2 ^ 32),
+    )
 
 -- the frame that reading row i gives is that of its words
 read-good : (store : List ℕ) (i : ℕ) (f : Frame) → readOf 16 store i ≡ ReadAnswer.Good f → f ≡ frameOf (rowAt store i)
@@ -95,24 +106,24 @@ module _ (x : ExecuteInput) (s : State) (store : List ℕ) (at : stageOf (s .sta
 
   -- ---- nop, add and sub
   nop-view : operationOf op ≡ machines.neither → Viewed (nopOf settings s) store
-  unfolding outcome nopOf nopDone movedState finishedState withPc
+  unfolding outcome nopOf nopDone movedState finishedState withPc lastingOf
   nop-view e =
       by-number (λ r. Viewed r store) (nopRefusal settings s) (refusedWith s) (nopDone settings s)
       (λ z.
       done refl (
         record { stage-before = at; stage-after = refl },
-        rw e (record { ergs-less = add-zero (s .current .«ergs_remaining»); local-same = refl; depth-same = refl; store-same = refl }),
+        rw e (record { ergs-less = add-zero (s .current .«ergs_remaining»); lasting-same = refl; depth-same = refl; store-same = refl }),
       ))
       (checked ((lateIn settings s refuses 14) ∷ []) tt)
 
   arithmetic-view : (a b : U256) → operationOf op ≡ machines.neither → Viewed (arithmeticOf settings a b s) store
-  unfolding outcome arithmeticOf arithmeticDone writtenState movedState finishedState withPc
+  unfolding outcome arithmeticOf arithmeticDone writtenState movedState finishedState withPc lastingOf
   arithmetic-view a b e =
       by-number (λ r. Viewed r store) (arithmeticRefusalIn settings s) (refusedWith s) (arithmeticDone settings a b s)
       (λ z.
       done refl (
         record { stage-before = at; stage-after = refl },
-        rw e (record { ergs-less = add-zero (s .current .«ergs_remaining»); local-same = refl; depth-same = refl; store-same = refl }),
+        rw e (record { ergs-less = add-zero (s .current .«ergs_remaining»); lasting-same = refl; depth-same = refl; store-same = refl }),
       ))
       (checked (((lateIn settings s || isStored (s .kept .write) && leb (2 ^ 32) (s .timestamp + 3)) refuses 14) ∷ []) tt)
 
@@ -121,7 +132,7 @@ module _ (x : ExecuteInput) (s : State) (store : List ℕ) (at : stageOf (s .sta
   want = wantIn (x .word) (x .pointer) s
 
   call-view : operationOf op ≡ machines.nearCall → badStore settings s store ≡ false → Viewed (nearCallOf settings want s) (nearCallStore settings want s store)
-  unfolding outcome nearCallOf nearCallStore nearCallDone switchedState finishedState openedOf callerOf machines.rowAt machines.firstRows
+  unfolding outcome nearCallOf nearCallStore nearCallDone switchedState finishedState openedOf callerOf lastingOf machines.rowAt machines.firstRows
   call-view e b =
       both Viewed (eqb (callRefusalIn settings s) 0) (nearCallDone settings want s) (refusedWith s (callRefusalIn settings s))
       (savedStore store (s .depth) (callerIn settings want s)) store
@@ -140,7 +151,7 @@ module _ (x : ExecuteInput) (s : State) (store : List ℕ) (at : stageOf (s .sta
               kept-back =
                   ap (λ (l : List ℕ). frameOf l .«ergs_remaining» + passedIn settings want s) row
                   ∙ sub-add-cancel (passed-le (wantedErgs want (settings .«near_call_multiplier»)) (s .current .«ergs_remaining»));
-              local-saved = ap (λ (l : List ℕ). frameOf l .«is_local_frame») row ∙ bit-back (s .current .«is_local_frame»);
+              lasting-saved = ap (λ (l : List ℕ). lastingOf (frameOf l)) row ∙ lasting-row (callerIn settings want s);
               below-same = saved-below store (s .depth) (callerIn settings want s) (s .depth) (omega arith);
             }),
       ))
@@ -151,7 +162,7 @@ module _ (x : ExecuteInput) (s : State) (store : List ℕ) (at : stageOf (s .sta
 
   -- ---- return
   close-view : operationOf op ≡ machines.ret → (s .depth ≡ 0 → ⊥) → (row : ReadAnswer) → readOf 16 store (s .depth - 1) ≡ row → Viewed (returnTo settings s row) store
-  unfolding outcome closeOf closeDone switchedState finishedState resumedWith resumedOf machines.rowAt
+  unfolding outcome closeOf closeDone switchedState finishedState resumedWith resumedOf lastingOf machines.rowAt
   close-view e d (ReadAnswer.Good caller) q =
       by-number (λ r. Viewed r store) (closeRefusalIn settings caller s) (refusedWith s) (closeDone settings caller s)
       (λ z.
@@ -161,7 +172,7 @@ module _ (x : ExecuteInput) (s : State) (store : List ℕ) (at : stageOf (s .sta
         rw e
             (record {
               depth-down = down (s .depth) d;
-              local-back = ap (λ (f : Frame). f .«is_local_frame») read;
+              lasting-back = ap lastingOf read;
               ergs-back = λ l. ap (λ (f : Frame). f .«ergs_remaining» + s .current .«ergs_remaining») read;
               store-same = refl;
             }),

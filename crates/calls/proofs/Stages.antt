@@ -29,7 +29,7 @@ use Rattle.cycle.specs.Operands.{recordOf, operandsRefusal, addressedState, ope
 use Rattle.lists.specs.Machine.{Outcome, chargeOf}
 use Rattle.lists.specs.Lists.{fetch, decode, operands}
 use Rattle.lists.specs.Laws.{Advances, Spends}
-use Rattle.calls.specs.Core.{core, FetchInput, DecodeInput, fetchRefused, decodeRefused, operandsRefused, fetchOutcome, decodeOutcome, operandsOutcome, stageOf}
+use Rattle.calls.specs.Core.{core, FetchInput, DecodeInput, fetchRefused, decodeRefused, operandsRefused, fetchOutcome, decodeOutcome, operandsOutcome, stageOf, lastingOf}
 use Rattle.calls.specs.Answers.{fetchNumbers, decodeNumbers, operandsNumbers}
 use Rattle.calls.proofs.Views.{View, refused, done, by-number, listed}
 
@@ -54,7 +54,7 @@ fetch-view x s store =
     done
     (rw (answers (isEnded s) (s .«pending_exception») _)) (
       record { stage-before = turn (s .stage) 0 (c .1 .0); stage-after = refl },
-      record { ergs-less = add-zero (s .current .«ergs_remaining»); local-same = refl; depth-same = refl; store-same = refl },
+      record { ergs-less = add-zero (s .current .«ergs_remaining»); lasting-same = refl; depth-same = refl; store-same = refl },
     ))
     (λ h. refused (record { number = firstOf checks; told = refl; listed = listed checks fetchNumbers tt h; unchanged = record { state-same = refl; store-same = refl } }))
   where
@@ -73,7 +73,7 @@ pub decode-view : (x : DecodeInput) (s : State) (store : List ℕ)
     (Advances core (decode x) s (decodeOutcome x s store)
     × Spends core (chargeOf core x s) s store (decodeOutcome x s store)
     × (core .kept (decodeOutcome x s store .state) ≡ core .keeps x s))
-unfolding decodeOf decodeDone decodedState withErgs chargeOf
+unfolding decodeOf decodeDone decodedState withErgs chargeOf lastingOf
 decode-view x s store =
     by-number
     (λ r. View decodeNumbers s store (outcome r) (Advances core (decode x) s (outcome r) × Spends core (chargeOf core x s) s store (outcome r) × (core .kept (r .state) ≡ core .keeps x s)))
@@ -82,7 +82,7 @@ decode-view x s store =
     let c = clear checks tt z in
     done refl (
       record { stage-before = turn (s .stage) 1 (c .1 .0); stage-after = refl },
-      record { ergs-less = charged (s .current .«ergs_remaining») _; local-same = refl; depth-same = refl; store-same = refl },
+      record { ergs-less = charged (s .current .«ergs_remaining») _; lasting-same = refl; depth-same = refl; store-same = refl },
       refl,
     ))
     (λ h. refused (record { number = firstOf checks; told = refl; listed = listed checks decodeNumbers tt h; unchanged = record { state-same = refl; store-same = refl } }))
@@ -102,7 +102,7 @@ pub operands-view : (settings : Settings) (s : State) (store : List ℕ)
     (Advances core (operands settings) s (operandsOutcome settings s store)
     × Spends core 0 s store (operandsOutcome settings s store)
     × (core .kept (operandsOutcome settings s store .state) ≡ core .kept s))
-unfolding operandsOf operandsDone addressedState withSp
+unfolding operandsOf operandsDone addressedState withSp lastingOf
 operands-view settings s store =
     by-number
     (λ r. View operandsNumbers s store (outcome r) (Advances core (operands settings) s (outcome r) × Spends core 0 s store (outcome r) × (core .kept (r .state) ≡ core .kept s)))
@@ -111,7 +111,7 @@ operands-view settings s store =
     let c = clear checks tt z in
     done refl (
       record { stage-before = turn (s .stage) 2 (c .1 .0); stage-after = refl },
-      record { ergs-less = add-zero (s .current .«ergs_remaining»); local-same = refl; depth-same = refl; store-same = refl },
+      record { ergs-less = add-zero (s .current .«ergs_remaining»); lasting-same = refl; depth-same = refl; store-same = refl },
       refl,
     ))
     (λ h. refused (record { number = firstOf checks; told = refl; listed = listed checks operandsNumbers tt h; unchanged = record { state-same = refl; store-same = refl } }))

@@ -4,7 +4,9 @@ use mathlib.Core.Bool.{Bool, cond}
 use mathlib.Core.List.{List}
 use mathlib.Core.Option.{Option, none, some}
 use lib.Dec.{eqb}
+use lib.IntN.{pos}
 use Rattle.u256.specs.declared.U256.{U256}
+use Rattle.frame.specs.declared.Frame.{Frame}
 use Rattle.frame.specs.Row.{rowWidth, frameOf}
 use Rattle.rules.specs.declared.Settings.{Settings}
 use Rattle.rules.specs.declared.Records.{Records}
@@ -90,6 +92,30 @@ stageOf n = cond (eqb n 0) machines.ready (cond (eqb n 1) machines.fetched (cond
 abbrev pub operationOf : ℕ → machines.Operation
 operationOf n = cond (eqb n 3) machines.nearCall (cond (eqb n 4) machines.ret machines.neither)
 
+-- what no stage changes of a frame as long as it lives: all but its ergs, sp, pc, heap bounds and pubdata, which are 0 here
+unfoldable pub lastingOf : Frame → Frame
+lastingOf f = record {
+  «context_u128_value» = f .«context_u128_value»;
+  «this_address» = f .«this_address»;
+  «msg_sender» = f .«msg_sender»;
+  «code_address» = f .«code_address»;
+  «base_memory_page» = f .«base_memory_page»;
+  «code_page» = f .«code_page»;
+  «ergs_remaining» = 0;
+  sp = 0;
+  pc = 0;
+  «exception_handler_location» = f .«exception_handler_location»;
+  «this_shard_id» = f .«this_shard_id»;
+  «caller_shard_id» = f .«caller_shard_id»;
+  «code_shard_id» = f .«code_shard_id»;
+  «is_static» = f .«is_static»;
+  «is_local_frame» = f .«is_local_frame»;
+  «heap_bound» = 0;
+  «aux_heap_bound» = 0;
+  «total_pubdata_spent» = record { 0 = pos 0 };
+  stipend = f .stipend;
+}
+
 abbrev pub core : machines.Machine
 core = record {
   State = State;
@@ -101,8 +127,10 @@ core = record {
   decodeOf = decodeOutcome;
   operandsOf = operandsOutcome;
   executeOf = executeOutcome;
+  Lasting = Frame;
+  isLocal = λ f. f .«is_local_frame»;
   ergs = λ s. s .current .«ergs_remaining»;
-  local = λ s. s .current .«is_local_frame»;
+  lasting = λ s. lastingOf (s .current);
   depth = λ s. s .depth;
   stage = λ s. stageOf (s .stage);
   kept = λ s. operationOf (s .kept .instruction .operation);
@@ -111,5 +139,5 @@ core = record {
   passes = λ x s. passedIn (x .settings) (wantIn (x .word) (x .pointer) s) s;
   rowWidth = rowWidth;
   rowErgs = λ row. frameOf row .«ergs_remaining»;
-  rowLocal = λ row. frameOf row .«is_local_frame»;
+  rowLasting = λ row. lastingOf (frameOf row);
 }

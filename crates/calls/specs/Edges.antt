@@ -11,6 +11,7 @@ use Rattle.frame.specs.Store.{rowAt}
 use Rattle.registers.specs.Registers.{emptyWord, registerOf}
 use Rattle.rules.specs.declared.Location.{Location}
 use Rattle.rules.specs.declared.Flags.{Flags}
+use Rattle.rules.specs.Charge.{anyError}
 use Rattle.cycle.specs.declared.State.{State}
 use Rattle.cycle.specs.declared.Decoded.{Decoded}
 use Rattle.cycle.specs.declared.DecodeAnswer.{DecodeAnswer}
@@ -31,9 +32,16 @@ pub record Edge : Type 0 where
   pub computed : List ℕ
   pub stated : List ℕ
 
--- decode of an add with this price at so many ergs: the ergs left, NOT_ENOUGH_ERGS, the charge, the operation kept
+-- decode of an add with this price at so many ergs: the ergs left, whether there is a flag, NOT_ENOUGH_ERGS, the charge, the operation and the return kind kept
 abbrev figures : State → DecodeAnswer → List ℕ
-figures s (DecodeAnswer.Done errors charge) = s .current .«ergs_remaining» ∷ boolByte (errors .«not_enough_ergs») ∷ charge ∷ s .kept .instruction .operation ∷ []
+figures s (DecodeAnswer.Done errors charge) =
+    s .current .«ergs_remaining»
+    ∷ boolByte (anyError errors)
+    ∷ boolByte (errors .«not_enough_ergs»)
+    ∷ charge
+    ∷ s .kept .instruction .operation
+    ∷ s .kept .instruction .«return_kind»
+    ∷ []
 figures s (DecodeAnswer.Refused n) = n ∷ []
 
 abbrev pub decodes : ℕ → ℕ → List ℕ
@@ -108,8 +116,8 @@ steps pc =
 abbrev pub edges : List Edge
 edges =
     -- "ergs 100: price 100 leaves 0, no flag; price 101 leaves 0, panic, charge 100"
-    record { computed = decodes 100 100; stated = 0 ∷ 0 ∷ 100 ∷ 1 ∷ [] }
-    ∷ record { computed = decodes 100 101; stated = 0 ∷ 1 ∷ 100 ∷ 4 ∷ [] }
+    record { computed = decodes 100 100; stated = 0 ∷ 0 ∷ 0 ∷ 100 ∷ 1 ∷ 0 ∷ [] }
+    ∷ record { computed = decodes 100 101; stated = 0 ∷ 1 ∷ 1 ∷ 100 ∷ 4 ∷ 2 ∷ [] }
     -- "held 969: want 300 gives 300 and keeps 669; want 0, 969 or 970 gives 969 and keeps 0"
     ∷ record { computed = calls 1 969 300; stated = 2 ∷ 300 ∷ 669 ∷ [] }
     ∷ record { computed = calls 1 969 0; stated = 2 ∷ 969 ∷ 0 ∷ [] }

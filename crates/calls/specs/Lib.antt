@@ -1,3 +1,4 @@
 pub mod Core
 pub mod Answers
 pub mod Edges
+pub mod SourceWord

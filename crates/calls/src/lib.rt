@@ -3,6 +3,7 @@ ghost use Rattle.lists.specs.Claims.{CallersResume, CyclesCover, FramesCounted}
 ghost use Rattle.calls.specs.Core.{core};
 ghost use Rattle.calls.specs.Answers.{EveryCallAnswers, EveryEntryAnswers};
 ghost use Rattle.calls.specs.Edges.{edges, AllHold};
+ghost use Rattle.calls.specs.SourceWord.{WordUnread};
 
 // Demand 1: each call of a stage finishes, or refuses with one of its numbers and changes nothing.
 pub fn every_call_answers()
@@ -14,7 +15,8 @@ pub fn every_entry_answers()
     ensures { λ _. ⌜ EveryEntryAnswers ⌝ }
 {}
 
-// Demand 3: whenever the frame of a near call closes, its caller holds what it had less the charges, no less than its share, and the frames below are as they were.
+// Demand 3: whenever the frame of a near call closes, its caller is current again and holds what it had less the charges, no less than its share, and the frames
+// below are as they were.
 pub fn callers_resume()
     ensures { λ _. ⌜ CallersResume core ⌝ }
 {}
@@ -27,6 +29,11 @@ pub fn cycles_cover()
 // What demand 3 counts as opened and closed is what the depth counts.
 pub fn frames_counted()
     ensures { λ _. ⌜ FramesCounted core ⌝ }
+{}
+
+// Where operands gave no source location, what execute does is the same for every word and pointer bit.
+pub fn word_unread()
+    ensures { λ _. ⌜ WordUnread ⌝ }
 {}
 
 // The edges that document 01 marks P.

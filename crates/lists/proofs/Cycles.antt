@@ -68,7 +68,7 @@ module _ (M : Machine) (L : Laws M) where
       record {
         spends = record {
           ergs-less = omega (arith, x .ergs-less, ap ergs (f .3 .0), y .ergs-less, ap ergs (f .3 .3 .0), z .ergs-less, ap ergs (f .3 .3 .3 .0));
-          local-same = cc;
+          lasting-same = cc;
           depth-same = cc;
           store-same = cc;
         };

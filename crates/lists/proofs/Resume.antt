@@ -18,24 +18,29 @@ use Rattle.lists.proofs.Cycles.{Follow, follow, Does, does}
 
 -- ---- the frames above the caller of a near call
 module _ (M : Machine) (call : Cycle M) where
-  open Machine M using (State, ExecuteInput, ergs, local, depth, passes, rowErgs, rowLocal)
+  open Machine M using (State, ExecuteInput, Lasting, isLocal, ergs, lasting, depth, passes, rowErgs, rowLasting)
 
   -- the caller's depth, which is also the row that it is saved as
   abbrev d : ℕ
   d = depth (before M call)
 
-  -- the caller's ergs with k frames above it: with none it is the current frame
+  -- the caller's ergs and what lasts of it, with k frames above it: with none it is the current frame
   abbrev callerErgs : ℕ → State → List ℕ → ℕ
   callerErgs zero s m = ergs s
   callerErgs (suc k) s m = rowErgs (rowAt M m d)
+
+  abbrev callerLasting : ℕ → State → List ℕ → Lasting
+  callerLasting zero s m = lasting s
+  callerLasting (suc k) s m = rowLasting (rowAt M m d)
 
   -- k frames, all of them local, stand above the caller, and `paid` was charged since
   record Above (k : ℕ) (s : State) (m : List ℕ) (paid : ℕ) : Type 0 where
     deep : depth s ≡ d + k
     total : ergs s + savedErgs M m d k + paid ≡ ergs (before M call)
     enough : share M call ≤ callerErgs k s m
-    top-local : 0 < k → local s ≡ true
-    rows-local : (i : ℕ) → d < i → i < d + k → rowLocal (rowAt M m i) ≡ true
+    same : callerLasting k s m ≡ lasting (before M call)
+    top-local : 0 < k → isLocal (lasting s) ≡ true
+    rows-local : (i : ℕ) → d < i → i < d + k → isLocal (rowLasting (rowAt M m i)) ≡ true
     below : firstRows M d m ≡ firstRows M d (storeBefore M call)
 
   module _ {s : State} {m : List ℕ} {o : Outcome State} {paid : ℕ} where
@@ -46,36 +51,38 @@ module _ (M : Machine) (call : Cycle M) where
           deep = z .depth-same ∙ a .deep;
           total = omega (arith, z .ergs-less, a .total);
           enough = a .enough;
-          top-local = λ h. z .local-same ∙ a .top-local h;
+          same = a .same;
+          top-local = λ h. rw (z .lasting-same) (a .top-local h);
           rows-local = a .rows-local;
           below = a .below;
         })
 
-    opened-above : {k : ℕ} (x : ExecuteInput) → OpensFrame M x s m o → share M call ≤ rowErgs (rowAt M (o .store) d) → Above k s m paid
-        → Above (suc k) (o .state) (o .store) paid
+    opened-above : {k : ℕ} (x : ExecuteInput) → OpensFrame M x s m o → share M call ≤ rowErgs (rowAt M (o .store) d)
+        → rowLasting (rowAt M (o .store) d) ≡ lasting (before M call) → Above k s m paid → Above (suc k) (o .state) (o .store) paid
     unfolding savedErgs
-    opened-above {k} x z l a =
+    opened-above {k} x z l e a =
         record {
           deep = omega (arith, z .depth-up, a .deep);
-          total = omega (arith, z .passed, row, a .total, saved-same M (o .store) m d k same);
+          total = omega (arith, z .passed, row, a .total, saved-same M (o .store) m d k rows);
           enough = l;
+          same = e;
           top-local = λ h. z .local-new;
           rows-local = λ i p q. go i p q (decLt i (d + k));
-          below = fewer-same M (o .store) m (d + k) same d (omega arith) ∙ a .below;
+          below = fewer-same M (o .store) m (d + k) rows d (omega arith) ∙ a .below;
         }
       where
-        same : firstRows M (d + k) (o .store) ≡ firstRows M (d + k) m
-        same = rw (← a .deep) (z .below-same)
+        rows : firstRows M (d + k) (o .store) ≡ firstRows M (d + k) m
+        rows = rw (← a .deep) (z .below-same)
 
         row : rowErgs (rowAt M (o .store) (d + k)) + passes x s ≡ ergs s
         row = rw (← a .deep) (z .kept-back)
 
         -- a row that was there, or the one saved now
-        go : (i : ℕ) → d < i → i < d + suc k → Dec (i < d + k) → rowLocal (rowAt M (o .store) i) ≡ true
-        go i p q (yes r) = ap rowLocal (row-same M (o .store) m (d + k) same i r) ∙ a .rows-local i p r
+        go : (i : ℕ) → d < i → i < d + suc k → Dec (i < d + k) → isLocal (rowLasting (rowAt M (o .store) i)) ≡ true
+        go i p q (yes r) = rw (row-same M (o .store) m (d + k) rows i r) (a .rows-local i p r)
         go i p q (no r) =
             let at : i ≡ depth s = omega (arith, a .deep, r) in
-            rw at (z .local-saved) ∙ a .top-local (omega arith)
+            rw (at, z .lasting-saved) (a .top-local (omega arith))
 
     closed-above : {j : ℕ} → ClosesFrame M s m o → Above (suc j) s m paid → Above j (o .state) (o .store) paid
     unfolding savedErgs
@@ -85,7 +92,8 @@ module _ (M : Machine) (call : Cycle M) where
           deep = at;
           total = omega (arith, back, a .total);
           enough = go j (a .enough) back;
-          top-local = λ h. z .local-back ∙ a .rows-local (depth (o .state)) (omega (arith, at)) (omega (arith, at));
+          same = resumed j (a .same) whole;
+          top-local = λ h. rw (z .lasting-back) (a .rows-local (depth (o .state)) (omega (arith, at)) (omega (arith, at)));
           rows-local = λ i p q. a .rows-local i p (omega arith);
           below = a .below;
         })
@@ -96,10 +104,18 @@ module _ (M : Machine) (call : Cycle M) where
         back : ergs (o .state) ≡ rowErgs (rowAt M m (d + j)) + ergs s
         back = rw at at (z .ergs-back (a .top-local (omega arith)))
 
+        whole : lasting (o .state) ≡ rowLasting (rowAt M m (d + j))
+        whole = rw at at (z .lasting-back)
+
         go : (j : ℕ) → share M call ≤ rowErgs (rowAt M m d) → ergs (o .state) ≡ rowErgs (rowAt M m (d + j)) + ergs s
             → share M call ≤ callerErgs j (o .state) m
         go zero l e = omega (arith, rw (add-zero d) at e)
         go (suc j) l e = l
+
+        resumed : (j : ℕ) → rowLasting (rowAt M m d) ≡ lasting (before M call) → lasting (o .state) ≡ rowLasting (rowAt M m (d + j))
+            → callerLasting j (o .state) m ≡ lasting (before M call)
+        resumed zero l e = rw (add-zero d) at e ∙ l
+        resumed (suc j) l e = l
 
   -- the near call's own cycle
   over-call : operation M call ≡ nearCall → Does M call → Above 1 (result M call .state) (result M call .store) (charge M call)
@@ -110,10 +126,12 @@ module _ (M : Machine) (call : Cycle M) where
       (call .execute .input)
       z
       (rw (← x .spends .depth-same) (omega (arith, z .kept-back, x .spends .ergs-less)))
+      (rw (← x .spends .depth-same) (z .lasting-saved ∙ x .spends .lasting-same))
       (record {
         deep = omega (arith, x .spends .depth-same);
         total = omega (arith, x .spends .ergs-less);
         enough = omega (arith, x .spends .ergs-less);
+        same = x .spends .lasting-same;
         top-local = λ h. absurd (omega arith);
         rows-local = λ i p q. absurd (omega arith);
         below = ap (firstRows M d) (x .spends .store-same);
@@ -145,7 +163,7 @@ module _ (M : Machine) (L : Laws M) (call : Cycle M) where
           → (k′ : ℕ) × (k′ + closes q ≡ suc j + opens q) × Above M call k′ (result M c .state) (result M c .store) (paid + charge M c)
       go nearCall z =
           let same = row-same M (result M c .store) (c .execute .store) (depth (c .execute .state)) (z .below-same) (d M call) (omega (arith, b .deep)) in
-          (suc (suc j), omega arith, opened-above M call (c .execute .input) z (rw same (b .enough)) b)
+          (suc (suc j), omega arith, opened-above M call (c .execute .input) z (rw same (b .enough)) (rw same (b .same)) b)
       go ret z = (j, omega arith, closed-above M call z b)
       go neither z = (suc j, omega arith, rw (add-zero (paid + charge M c)) at (spent-above M call z b))
 
@@ -202,4 +220,4 @@ module _ (M : Machine) (L : Laws M) where
       (f .2 .3 .3 .3 .3)
       (omega (arith, l .as-many, one, none), λ i h q. l .not-before (suc i) (omega arith) (omega arith) (omega (arith, q, one, none)))
       (over-call M call e x) in
-      record { current = omega (arith, a .deep); exact = omega (arith, a .total); no-less = a .enough; below = a .below }
+      record { current = omega (arith, a .deep); same = a .same; exact = omega (arith, a .total); no-less = a .enough; below = a .below }

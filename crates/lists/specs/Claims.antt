@@ -10,7 +10,7 @@ use Rattle.lists.specs.Lists.{Call, Event, trace, finishedOf, Cycle, eve
 use Rattle.lists.specs.Lists.{before, storeBefore, result, charges, operation, opened, closed, share}
 
 module _ (M : Machine) where
-  open Machine M using (State, ergs, depth, stage)
+  open Machine M using (State, ergs, lasting, depth, stage)
 
   -- ---- what a caller holds when the frame of its near call closes
   -- "A near call's frame closes with the first cycle by which, from the near call's own on, as many have closed as opened." Of these cycles that is the last.
@@ -20,8 +20,9 @@ module _ (M : Machine) where
 
   -- what holds after the cycle that closes the frame, where all cycles from the near call's own to that one charged so much
   pub record CallerResumes (call close : Cycle M) (charged : ℕ) : Type 0 where
-    -- "Its caller is the frame current before the near call's cycle, and again after the close."
+    -- "Its caller is the frame current before the near call's cycle, and again after the close." It is the frame at the same depth, with all that lasts of it.
     pub current : depth (result M close .state) ≡ depth (before M call)
+    pub same : lasting (result M close .state) ≡ lasting (before M call)
     -- "its caller then holds exactly the ergs it had before that near call's cycle less the charge of each cycle from the near call to the closing return, both
     -- counted"
     pub exact : ergs (result M close .state) + charged ≡ ergs (before M call)

@@ -9,7 +9,7 @@ use Rattle.lists.specs.Lists.{Call, fetch, decode, operands, execute, ou
 
 module _ (M : Machine) where
   open Machine M using (State, FetchInput, DecodeInput, OperandsInput, ExecuteInput, fetchOf, decodeOf, operandsOf, executeOf)
-  open Machine M using (ergs, local, depth, stage, kept, keeps, passes, rowErgs, rowLocal)
+  open Machine M using (ergs, lasting, isLocal, depth, stage, kept, keeps, passes, rowErgs, rowLasting)
 
   -- Demand 1: "a refusal hands back the state it was given and alters no word of the frame store"
   pub record Unchanged (s : State) (store : List ℕ) (o : Outcome State) : Type 0 where
@@ -27,28 +27,28 @@ module _ (M : Machine) where
     pub stage-before : stage s ≡ takesAt c
     pub stage-after : stage (o .state) ≡ bringsTo c
 
-  -- the current frame holds so many ergs less; whether it is local, the depth and the store stay
+  -- the current frame holds so many ergs less; what lasts of it, the depth and the store stay
   pub record Spends (spent : ℕ) (s : State) (store : List ℕ) (o : Outcome State) : Type 0 where
     pub ergs-less : ergs (o .state) + spent ≡ ergs s
-    pub local-same : local (o .state) ≡ local s
+    pub lasting-same : lasting (o .state) ≡ lasting s
     pub depth-same : depth (o .state) ≡ depth s
     pub store-same : o .store ≡ store
 
   -- a near call: the opened frame is local and holds what is passed; its caller is saved as the next row, with the rest
   pub record OpensFrame (x : ExecuteInput) (s : State) (store : List ℕ) (o : Outcome State) : Type 0 where
     pub depth-up : depth (o .state) ≡ suc (depth s)
-    pub local-new : local (o .state) ≡ true
+    pub local-new : isLocal (lasting (o .state)) ≡ true
     pub passed : ergs (o .state) ≡ passes x s
     pub kept-back : rowErgs (rowAt M (o .store) (depth s)) + passes x s ≡ ergs s
-    pub local-saved : rowLocal (rowAt M (o .store) (depth s)) ≡ local s
+    pub lasting-saved : rowLasting (rowAt M (o .store) (depth s)) ≡ lasting s
     pub below-same : firstRows M (depth s) (o .store) ≡ firstRows M (depth s) store
 
   -- a return: the caller is read from the last saved row. Document 01: "A local return of any kind, panic too, adds all the ergs the closed frame holds to its
   -- caller's."
   pub record ClosesFrame (s : State) (store : List ℕ) (o : Outcome State) : Type 0 where
     pub depth-down : depth s ≡ suc (depth (o .state))
-    pub local-back : local (o .state) ≡ rowLocal (rowAt M store (depth (o .state)))
-    pub ergs-back : local s ≡ true → ergs (o .state) ≡ rowErgs (rowAt M store (depth (o .state))) + ergs s
+    pub lasting-back : lasting (o .state) ≡ rowLasting (rowAt M store (depth (o .state)))
+    pub ergs-back : isLocal (lasting s) ≡ true → ergs (o .state) ≡ rowErgs (rowAt M store (depth (o .state))) + ergs s
     pub store-same : o .store ≡ store
 
   -- what execute does, by the kept record's operation

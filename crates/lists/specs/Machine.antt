@@ -34,9 +34,12 @@ pub record Machine : Type 1 where
   pub decodeOf : DecodeInput → State → List ℕ → Outcome State
   pub operandsOf : OperandsInput → State → List ℕ → Outcome State
   pub executeOf : ExecuteInput → State → List ℕ → Outcome State
-  -- of a state: the current frame's ergs and whether it is local, the depth, the stage reached, the kept record's operation
+  -- what no stage changes of a frame as long as it lives, and by that, whether the frame is local
+  pub Lasting : Type 0
+  pub isLocal : Lasting → Bool
+  -- of a state: the current frame's ergs and what lasts of it, the depth, the stage reached, the kept record's operation
   pub ergs : State → ℕ
-  pub local : State → Bool
+  pub lasting : State → Lasting
   pub depth : State → ℕ
   pub stage : State → Stage
   pub kept : State → Operation
@@ -45,10 +48,10 @@ pub record Machine : Type 1 where
   pub keeps : DecodeInput → State → Operation
   -- of what execute is given: the ergs that Execute's rule for a near call passes
   pub passes : ExecuteInput → State → ℕ
-  -- the number of words in a row; of a row's words, the ergs and whether the frame is local
+  -- the number of words in a row; of a row's words, the ergs and what lasts of the frame
   pub rowWidth : ℕ
   pub rowErgs : List ℕ → ℕ
-  pub rowLocal : List ℕ → Bool
+  pub rowLasting : List ℕ → Lasting
 
 module _ (M : Machine) where
   open Machine M using (State, DecodeInput, ergs, depth, plainPrice, rowWidth)
