@@ -85,6 +85,14 @@ impl State {
     pub fn has_ended(&self) -> bool {
         self.saved.is_empty()
     }
+
+    /// What register `number`, which is at most 15, holds; 0 means the empty value.
+    pub fn register(&self, number: u8) -> Register {
+        match usize::from(number).checked_sub(1) {
+            Some(i) => self.registers[i],
+            None => Register::default(),
+        }
+    }
 }
 
 pub mod operation {
@@ -154,14 +162,49 @@ pub struct Records {
     pub nop: Record,
 }
 
-/// One whole cycle from a ready state, and what its stages are handed.
+/// Which of the three records decode keeps.
+#[derive(Clone, Copy, Debug, PartialEq, Eq)]
+pub enum Choice {
+    Plain,
+    Panic,
+    Nop,
+}
+
+impl Records {
+    pub fn kept(&self, choice: Choice) -> &Record {
+        match choice {
+            Choice::Plain => &self.plain,
+            Choice::Panic => &self.panic,
+            Choice::Nop => &self.nop,
+        }
+    }
+}
+
+/// How much of a cycle a case is about.
+#[derive(Clone, Copy, Debug, PartialEq, Eq, PartialOrd, Ord)]
+pub enum Part {
+    /// A whole cycle from a ready state.
+    Cycle,
+    /// Execute alone, from a state in mid-cycle that keeps the plain record and no write location.
+    Execute,
+}
+
+/// A state, and what the stages are handed. Execute alone looks at neither the masked records nor the code word.
 #[derive(Clone, Debug, PartialEq, Eq)]
 pub struct Case {
+    pub part: Part,
     pub settings: Settings,
     pub state: State,
     pub records: Records,
     pub code_word: Word,
     pub source: Register,
+}
+
+impl Case {
+    /// Refusal 1: limit 0, or depth above limit. The store always has as many rows as the limit.
+    pub fn has_bad_sizes(&self) -> bool {
+        self.settings.limit == 0 || self.state.depth() > self.settings.limit
+    }
 }
 
 #[derive(Clone, Copy, Debug, PartialEq, Eq)]
@@ -191,7 +234,7 @@ pub struct Write {
     pub value: Register,
 }
 
-#[derive(Clone, Copy, Debug, Default, PartialEq, Eq)]
+#[derive(Clone, Copy, Debug, Default, PartialEq, Eq, PartialOrd, Ord)]
 pub enum Event {
     #[default]
     None,
@@ -201,16 +244,23 @@ pub enum Event {
     },
 }
 
-/// A cycle that finished: the state after it and the answers of its stages.
+/// A case that finished: the state after it and the answers of its stages.
 #[derive(Clone, Debug, PartialEq, Eq)]
 pub struct Finished {
     pub state: State,
+    /// `None` where execute ran alone
+    pub before: Option<BeforeExecute>,
+    pub write: Option<Write>,
+    pub event: Event,
+}
+
+/// The answers of the stages before execute.
+#[derive(Clone, Copy, Debug, PartialEq, Eq)]
+pub struct BeforeExecute {
     pub code_read: Option<Location>,
     pub fetch: Fetch,
     pub error_flags: u64,
     pub charge: u32,
     pub source: Option<Location>,
     pub destination: Option<Location>,
-    pub write: Option<Write>,
-    pub event: Event,
 }

@@ -1,6 +1,6 @@
 //! Runs the Rust and a replay program on the same cases and compares every field.
 
-use crate::case::{operation, Case};
+use crate::case::{operation, Case, Part};
 use crate::cases;
 use crate::format;
 use crate::oracle::{Answer, Oracle, Outcome};
@@ -11,9 +11,9 @@ use std::process::{Command, Stdio};
 use std::thread;
 
 /// Cases between two progress lines.
-const PROGRESS: u64 = 100_000;
+const PROGRESS: u64 = 50_000;
 
-/// What is counted over all cases.
+/// What is counted over all cases of one part.
 #[derive(Default)]
 struct Counts {
     by_operation: BTreeMap<(Option<u8>, &'static str), u64>,
@@ -23,14 +23,16 @@ struct Counts {
 }
 
 impl Counts {
-    fn add(&mut self, answer: &Answer) {
+    fn add(&mut self, case: &Case, answer: &Answer) {
         let name = match &answer.outcome {
             Outcome::Finished(_) => "finished",
             Outcome::Panicked(_) => "panicked",
+            Outcome::Refused(_) => "refused by document 01",
             Outcome::Outside(_) => "outside",
         };
+        let operation = answer.kept.map(|choice| case.records.kept(choice).operation);
         *self.by_answer.entry(name).or_default() += 1;
-        *self.by_operation.entry((answer.kept, name)).or_default() += 1;
+        *self.by_operation.entry((operation, name)).or_default() += 1;
         if let Some(refusal) = answer.outcome.refusal() {
             *self.by_refusal.entry(refusal).or_default() += 1;
         }
@@ -39,21 +41,25 @@ impl Counts {
         }
     }
 
-    fn print(&self, out: &mut impl Write) -> io::Result<()> {
-        writeln!(out, "by operation kept:")?;
+    fn print(&self, out: &mut impl Write, part: Part) -> io::Result<()> {
+        let part = match part {
+            Part::Cycle => "whole cycles",
+            Part::Execute => "execute alone",
+        };
+        writeln!(out, "{part}, by operation kept:")?;
         for ((kept, answer), count) in &self.by_operation {
             let name = kept.map_or("none kept", |number| operation::NAMES[usize::from(number)]);
             writeln!(out, "  {name}, {answer}: {count}")?;
         }
-        writeln!(out, "by answer of the Rust:")?;
+        writeln!(out, "{part}, by answer of the Rust:")?;
         for (answer, count) in &self.by_answer {
             writeln!(out, "  {answer}: {count}")?;
         }
-        writeln!(out, "by refusal owed:")?;
+        writeln!(out, "{part}, by refusal owed:")?;
         for (refusal, count) in &self.by_refusal {
             writeln!(out, "  {refusal}: {count}")?;
         }
-        writeln!(out, "by place of a panic:")?;
+        writeln!(out, "{part}, by place of a panic:")?;
         for (place, count) in &self.by_place {
             writeln!(out, "  {place} ({}): {count}", places::meaning_of(place))?;
         }
@@ -82,7 +88,7 @@ pub fn run(replay: &str, seed: u64, count: u64) -> io::Result<bool> {
         return Err(io::Error::other("the replay program has no standard input or output"));
     };
     // the writer makes the cases a second time, so that none has to be kept
-    let writer = thread::spawn(move || write_cases(input, seed, count));
+    let writer = thread::spawn(move || write_cases(input, cases::all(seed, count)));
     let is_equal = compare_answers(BufReader::new(output), seed, count);
     let written = writer
         .join()
@@ -99,10 +105,10 @@ pub fn run(replay: &str, seed: u64, count: u64) -> io::Result<bool> {
     Ok(true)
 }
 
-pub fn write_cases(out: impl Write, seed: u64, count: u64) -> io::Result<()> {
+pub fn write_cases(out: impl Write, cases: impl IntoIterator<Item = Case>) -> io::Result<()> {
     let mut out = BufWriter::new(out);
-    for number in 0..count {
-        writeln!(out, "{}", format::case_line(&cases::case(seed, number)))?;
+    for case in cases {
+        writeln!(out, "{}", format::case_line(&case))?;
     }
     out.flush()
 }
@@ -110,13 +116,12 @@ pub fn write_cases(out: impl Write, seed: u64, count: u64) -> io::Result<()> {
 fn compare_answers(replay: impl BufRead, seed: u64, count: u64) -> io::Result<bool> {
     let oracle = Oracle::new();
     let mut lines = replay.lines();
-    let mut counts = Counts::default();
+    let mut counts: BTreeMap<Part, Counts> = BTreeMap::new();
     let mut differing = 0u64;
     let mut smallest: Option<Difference> = None;
-    for number in 0..count {
-        let case = cases::case(seed, number);
+    for (number, case) in (0..).zip(cases::all(seed, count)) {
         let answer = oracle.run(&case);
-        counts.add(&answer);
+        counts.entry(case.part).or_default().add(&case, &answer);
         let Some(line) = lines.next().transpose()? else {
             println!("the replay program answered {number} cases of {count}");
             return Ok(false);
@@ -133,7 +138,7 @@ fn compare_answers(replay: impl BufRead, seed: u64, count: u64) -> io::Result<bo
         }
     }
     let mut out = io::stdout().lock();
-    counts.print(&mut out)?;
+    counts.iter().try_for_each(|(&part, counts)| counts.print(&mut out, part))?;
     writeln!(out, "{count} cases of seed {seed}, {differing} differences")?;
     if lines.next().is_some() {
         writeln!(out, "the replay program answered more than {count} cases")?;
@@ -154,26 +159,19 @@ fn print_difference(out: &mut impl Write, difference: &Difference) -> io::Result
 
 /// Where the replay's line is not what the Rust's outcome asks for.
 fn difference(number: u64, case: &Case, outcome: &Outcome, replay: String) -> Option<Difference> {
-    let fields = match outcome {
-        Outcome::Finished(finished) => {
+    let fields = match (outcome, outcome.refusal()) {
+        (Outcome::Finished(finished), _) => {
             let rust = format::finished_line(finished);
             if rust == replay {
                 return None;
             }
             differing_fields(&format::finished_names(finished), &rust, &replay)
         }
-        Outcome::Panicked(place) => match outcome.refusal() {
-            Some(refusal) if refusal.to_string() == replay => return None,
-            Some(refusal) => vec![format!("owed: {refusal}")],
-            None => vec![format!("{place} is not in the table of places")],
-        },
-        Outcome::Outside(refusal) => {
-            let owed = (*refusal)?;
-            if owed.to_string() == replay {
-                return None;
-            }
-            vec![format!("owed, though outside the domain: {owed}")]
-        }
+        (_, Some(owed)) if owed.to_string() == replay => return None,
+        (Outcome::Outside(_), Some(owed)) => vec![format!("owed, though outside the domain: {owed}")],
+        (_, Some(owed)) => vec![format!("owed: {owed}")],
+        (Outcome::Panicked(place), None) => vec![format!("{place} is not in the table of places")],
+        (_, None) => return None,
     };
     Some(Difference {
         number,

@@ -213,7 +213,7 @@ fn to_operand(number: u8, operation: u8) -> Option<Operand> {
 }
 
 /// `None` where a field is outside its list, a register above 15, or a destination an immediate or on the code page.
-fn to_instruction(record: &Record) -> Option<InstructionRecord> {
+pub fn to_instruction(record: &Record) -> Option<InstructionRecord> {
     let is_register = |number: u8| usize::from(number) <= REGISTERS;
     let are_registers = [record.src0, record.src1, record.dst0].into_iter().all(is_register);
     let is_destination = !matches!(record.destination_kind, kind::IMMEDIATE | kind::CODE_PAGE);

@@ -3,6 +3,9 @@
 use crate::case::*;
 use std::fmt::{Display, Write as _};
 
+/// The first word of a case that is about execute alone.
+const EXECUTE: &str = "execute";
+
 /// Numbers of a line, in turn. Each `None` makes the line unread.
 struct Reader<'a> {
     fields: std::slice::Split<'a, u8, fn(&u8) -> bool>,
@@ -117,9 +120,18 @@ impl<'a> Reader<'a> {
     }
 }
 
+/// Which part a line is about, and its numbers.
+fn part_and_numbers(line: &[u8]) -> (Part, &[u8]) {
+    match line.strip_prefix(EXECUTE.as_bytes()).and_then(|rest| rest.strip_prefix(b" ")) {
+        Some(numbers) => (Part::Execute, numbers),
+        None => (Part::Cycle, line),
+    }
+}
+
 /// The case of a line, or `None` where it is not a case.
 pub fn read_case(line: &[u8]) -> Option<Case> {
-    let mut reader = Reader::new(line);
+    let (part, numbers) = part_and_numbers(line);
+    let mut reader = Reader::new(numbers);
     let settings = Settings {
         limit: reader.number()?,
         multiplier: reader.number()?,
@@ -129,6 +141,7 @@ pub fn read_case(line: &[u8]) -> Option<Case> {
         return None;
     }
     let case = Case {
+        part,
         settings,
         state: reader.state()?,
         records: Records {
@@ -261,23 +274,29 @@ impl Writer {
         self.put(format_args!("{name}: index"), location.map_or(0, |location| location.index));
     }
 
-    fn finished(&mut self, finished: &Finished) {
-        self.state(&finished.state);
-        let read = finished.code_read;
+    fn before_execute(&mut self, before: &BeforeExecute) {
+        let read = before.code_read;
         self.put("code read: wanted", read.is_some());
         self.put("code read: page", read.map_or(0, |location| location.page));
         self.put("code read: index", read.map_or(0, |location| location.index));
-        let (answer, bits) = match finished.fetch {
+        let (answer, bits) = match before.fetch {
             Fetch::Code(bits) => (0u32, bits),
             Fetch::Exception => (1, 0),
             Fetch::Nop => (2, 0),
         };
         self.put("fetch: answer", answer);
         self.put("fetch: 64 bits", bits);
-        self.put("decode: error flags", finished.error_flags);
-        self.put("decode: charge", finished.charge);
-        self.location("source", finished.source);
-        self.location("destination", finished.destination);
+        self.put("decode: error flags", before.error_flags);
+        self.put("decode: charge", before.charge);
+        self.location("source", before.source);
+        self.location("destination", before.destination);
+    }
+
+    fn finished(&mut self, finished: &Finished) {
+        self.state(&finished.state);
+        if let Some(before) = &finished.before {
+            self.before_execute(before);
+        }
         let write = finished.write;
         self.put("write: made", write.is_some());
         self.location("write", write.map(|write| write.location));
@@ -295,6 +314,9 @@ impl Writer {
 
 pub fn case_line(case: &Case) -> String {
     let mut writer = Writer::default();
+    if case.part == Part::Execute {
+        writer.line.push_str(EXECUTE);
+    }
     writer.put("", case.settings.limit);
     writer.put("", case.settings.multiplier);
     writer.put("", case.settings.time_step);
@@ -316,7 +338,7 @@ pub fn finished_line(finished: &Finished) -> String {
     writer.line
 }
 
-/// The name of each number of a finished cycle's line.
+/// The name of each number of a finished case's line.
 pub fn finished_names(finished: &Finished) -> Vec<String> {
     let mut writer = Writer {
         line: String::new(),

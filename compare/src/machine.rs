@@ -12,7 +12,7 @@ use zkevm_opcode_defs::decoding::encoding_mode_production::Encoding;
 use zkevm_opcode_defs::ethereum_types::U256;
 use zkevm_opcode_defs::Opcode;
 
-use crate::case::Event;
+use crate::case::{Choice, Event};
 
 pub type Machine = VmState<FrameEvents, CaseMemory, Unused, Unused, Unused, DummyTracer>;
 
@@ -132,7 +132,20 @@ pub struct Recorder {
 pub struct Decoded {
     pub encoding: Encoding,
     pub error_flags: u64,
+    pub is_condition_met: bool,
     pub kept: Opcode,
+}
+
+impl Decoded {
+    pub fn choice(&self) -> Choice {
+        if self.error_flags != 0 {
+            Choice::Panic
+        } else if self.is_condition_met {
+            Choice::Plain
+        } else {
+            Choice::Nop
+        }
+    }
 }
 
 #[derive(Clone, Copy, Debug)]
@@ -157,6 +170,7 @@ impl Tracer for Recorder {
         self.decoded = Some(Decoded {
             encoding: data.raw_opcode_unmasked,
             error_flags: data.error_flags_accumulated.bits(),
+            is_condition_met: data.resolved_condition,
             kept: data.opcode_masked.variant.opcode,
         });
     }

@@ -1,10 +1,12 @@
-//! Compares the port with the Rust that it was made from, cycle by cycle.
+//! Compares the port with the Rust that it was made from, cycle by cycle, and execute alone from states in mid-cycle.
 
+mod alone;
 mod case;
 mod cases;
 mod compare;
 mod convert;
 mod format;
+mod list;
 mod machine;
 mod oracle;
 mod places;
@@ -12,11 +14,15 @@ mod random;
 #[cfg(test)]
 mod tests;
 
+use case::Case;
 use oracle::{Oracle, Outcome};
 use std::io::{self, BufRead, BufWriter, Write};
 use std::process::ExitCode;
 
 const USAGE: &str = "usage: compare cases SEED COUNT            print cases
+       compare list SEED COUNT            print short cases that show all there is in the domain
+       compare list-outside SEED COUNT    the same for what is refused outside it
+       compare list-unread SEED           lines at the ends of what can be read
        compare oracle < CASES             what the Rust does on each
        compare expected < CASES           what the port owes on each
        compare run REPLAY_BIN SEED COUNT  compare the two";
@@ -25,7 +31,10 @@ fn main() -> ExitCode {
     let arguments: Vec<String> = std::env::args().skip(1).collect();
     let arguments: Vec<&str> = arguments.iter().map(String::as_str).collect();
     let done = match arguments.as_slice() {
-        ["cases", seed, count] => numbers(seed, count).map(|(seed, count)| compare::write_cases(io::stdout(), seed, count).map(|()| true)),
+        ["cases", seed, count] => print_cases(seed, count, cases::all),
+        ["list", seed, count] => print_cases(seed, count, list::answered),
+        ["list-outside", seed, count] => print_cases(seed, count, list::outside),
+        ["list-unread", seed] => seed.parse().ok().map(|seed| print_lines(&list::unread::lines(seed)).map(|()| true)),
         ["oracle"] => Some(answer_cases(Outcome::line).map(|()| true)),
         ["expected"] => Some(answer_cases(expected).map(|()| true)),
         ["run", replay, seed, count] => numbers(seed, count).map(|(seed, count)| compare::run(replay, seed, count)),
@@ -47,6 +56,18 @@ fn main() -> ExitCode {
 
 fn numbers(seed: &str, count: &str) -> Option<(u64, u64)> {
     Some((seed.parse().ok()?, count.parse().ok()?))
+}
+
+/// Prints the cases that `make` gives, or nothing where the two are not numbers.
+fn print_cases<Cases: IntoIterator<Item = Case>>(seed: &str, count: &str, make: fn(u64, u64) -> Cases) -> Option<io::Result<bool>> {
+    let (seed, count) = numbers(seed, count)?;
+    Some(compare::write_cases(io::stdout(), make(seed, count)).map(|()| true))
+}
+
+fn print_lines(lines: &[String]) -> io::Result<()> {
+    let mut out = BufWriter::new(io::stdout().lock());
+    lines.iter().try_for_each(|line| writeln!(out, "{line}"))?;
+    out.flush()
 }
 
 /// Prints a line for each case of the standard input.

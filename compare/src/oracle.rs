@@ -1,9 +1,10 @@
-//! Runs the Rust's `VmState::cycle` on a case.
+//! Runs the Rust on a case: `VmState::cycle`, or the function of an operation alone.
 
+use crate::alone;
 use crate::case::*;
 use crate::convert::*;
 use crate::format;
-use crate::machine::{machine, Machine, Query, Recorder};
+use crate::machine::{machine, Decoded, Machine, Query, Recorder};
 use crate::places::{self, Place, Refusal};
 use std::cell::{Cell, RefCell};
 use std::panic::{self, AssertUnwindSafe, PanicHookInfo};
@@ -30,6 +31,8 @@ const _: () = assert!(
 pub enum Outcome {
     Finished(Box<Finished>),
     Panicked(Place),
+    /// In the domain, but said by document 01 alone: a sum of `cycle` that execute alone does not come to in the Rust.
+    Refused(Refusal),
     /// Outside document 01's domain of equality, with the refusal that puts it there, where it is one.
     Outside(Option<Refusal>),
 }
@@ -40,6 +43,7 @@ impl Outcome {
         match self {
             Self::Finished(finished) => format::finished_line(finished),
             Self::Panicked(place) => format!("panicked {place}"),
+            Self::Refused(refusal) => refusal.to_string(),
             Self::Outside(_) => "outside".into(),
         }
     }
@@ -49,6 +53,7 @@ impl Outcome {
         match self {
             Self::Finished(_) => None,
             Self::Panicked(place) => places::refusal_at(place),
+            Self::Refused(refusal) => Some(*refusal),
             Self::Outside(refusal) => *refusal,
         }
     }
@@ -56,8 +61,8 @@ impl Outcome {
 
 pub struct Answer {
     pub outcome: Outcome,
-    /// The operation that decode kept, where the Rust came so far.
-    pub kept: Option<u8>,
+    /// The record that decode kept, where the Rust came so far. Execute alone is handed the plain one as kept.
+    pub kept: Option<Choice>,
 }
 
 /// Runs cases, with the Rust's panics kept silent and their places noted.
@@ -87,6 +92,13 @@ impl Oracle {
     }
 
     pub fn run(&self, case: &Case) -> Answer {
+        match case.part {
+            Part::Cycle => self.run_cycle(case),
+            Part::Execute => alone::run(self, case),
+        }
+    }
+
+    fn run_cycle(&self, case: &Case) -> Answer {
         let instructions = match check_domain(case) {
             Ok(instructions) => instructions,
             Err(refusal) => {
@@ -114,7 +126,7 @@ impl Oracle {
         };
         Answer {
             outcome,
-            kept: recorder.decoded.map(|decoded| operation_of(decoded.kept)),
+            kept: recorder.decoded.map(|decoded| kept(case, &decoded)),
         }
     }
 
@@ -125,6 +137,13 @@ impl Oracle {
         IS_RUNNING.set(false);
         end.map_err(|_| PANIC_PLACE.take().expect("the hook saw the panic"))
     }
+}
+
+fn kept(case: &Case, decoded: &Decoded) -> Choice {
+    let choice = decoded.choice();
+    let record = case.records.kept(choice);
+    assert_eq!(operation_of(decoded.kept), record.operation, "another record was kept");
+    choice
 }
 
 fn place_of(info: &PanicHookInfo) -> Option<Place> {
@@ -140,14 +159,14 @@ fn place_of(info: &PanicHookInfo) -> Option<Place> {
 /// The part of the domain that can be told before the cycle runs. Refusals 5 to 7 are told by the machine's recorder.
 fn check_domain(case: &Case) -> Result<instruction::InstructionRecords, Option<Refusal>> {
     let state = &case.state;
-    if case.settings != BUILT_WITH {
-        return Err(None);
-    }
-    if state.depth() > case.settings.limit {
+    if case.has_bad_sizes() {
         return Err(Some(Refusal {
             number: 1,
             stage: places::FETCH,
         }));
+    }
+    if case.settings != BUILT_WITH {
+        return Err(None);
     }
     if !state.saved.iter().all(Row::is_good) {
         return Err(None);
@@ -207,8 +226,7 @@ fn finished(case: &Case, machine: &Machine, recorder: &Recorder) -> Finished {
     let decoded = recorder.decoded.expect("decoding was traced");
     let operands = recorder.operands.expect("execution was traced");
     let queries = Queries::of(machine, case, operands.source);
-    Finished {
-        state: from_local_state(&machine.local_state),
+    let before = BeforeExecute {
         code_read: queries.code_read.map(|read| from_location(read.location)),
         fetch: match decoded.encoding {
             Encoding::Code(bits) => Fetch::Code(bits),
@@ -219,6 +237,10 @@ fn finished(case: &Case, machine: &Machine, recorder: &Recorder) -> Finished {
         charge: case.state.current.0[place::ERGS] - operands.ergs_after_charge,
         source: operands.source.map(from_location),
         destination: recorder.destination.map(from_location),
+    };
+    Finished {
+        state: from_local_state(&machine.local_state),
+        before: Some(before),
         write: queries.write.map(|write| Write {
             location: from_location(write.location),
             time: write.timestamp.0,

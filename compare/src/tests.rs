@@ -1,14 +1,10 @@
-//! Document 01's edges on the Rust, the case format, the table of places, and what the cases reach. For the default settings.
+//! Document 01's edges on the Rust, execute alone, the case format, and what the cases reach. For the default settings.
 
 use crate::case::*;
 use crate::cases;
-use crate::convert::{to_local_state, to_primitive};
 use crate::format::{case_line, finished_line, finished_names, read_case};
-use crate::machine::machine;
 use crate::oracle::{Oracle, Outcome, BUILT_WITH};
-use crate::places::{self, Place};
 use std::collections::BTreeSet;
-use zkevm_opcode_defs::ethereum_types::U256;
 
 const MOST: Word = [u64::MAX; 4];
 
@@ -23,6 +19,7 @@ fn calm(operation: u8) -> Case {
         ..Record::default()
     };
     Case {
+        part: Part::Cycle,
         settings: BUILT_WITH,
         state: State {
             registers: Default::default(),
@@ -54,6 +51,18 @@ fn finish(case: &Case) -> Finished {
     }
 }
 
+fn before(finished: &Finished) -> BeforeExecute {
+    finished.before.expect("a whole cycle")
+}
+
+/// A calm one about execute alone, at this depth.
+fn alone(operation: u8, depth: u32) -> Case {
+    let mut case = calm(operation);
+    case.part = Part::Execute;
+    case.state.saved = vec![Row([0; ROW]); depth as usize];
+    case
+}
+
 fn refusal(case: &Case) -> u32 {
     let outcome = Oracle::new().run(case).outcome;
     outcome.refusal().map_or(0, |refusal| refusal.number)
@@ -65,13 +74,11 @@ fn price_and_ergs() {
     case.state.current.0[place::ERGS] = 100;
     case.records.plain.price = 100;
     let covered = finish(&case);
-    assert_eq!((covered.charge, covered.error_flags), (100, 0));
+    assert_eq!((before(&covered).charge, before(&covered).error_flags), (100, 0));
     case.records.plain.price = 101;
     let short = finish(&case);
-    assert_eq!(
-        (short.charge, short.error_flags, short.event),
-        (100, 2, Event::Closed { panicked: true })
-    );
+    assert_eq!((before(&short).charge, before(&short).error_flags), (100, 2));
+    assert_eq!(short.event, Event::Closed { panicked: true });
 }
 
 #[test]
@@ -104,7 +111,10 @@ fn stack_pointer() {
         plain.imm_1 = push.unwrap_or(0);
         let finished = finish(&case);
         let index = |location: Option<Location>| location.map_or(0, |location| location.index);
-        assert_eq!((index(finished.source), index(finished.destination)), (read, written));
+        assert_eq!(
+            (index(before(&finished).source), index(before(&finished).destination)),
+            (read, written)
+        );
         assert_eq!(finished.state.current.0[place::SP], after);
     }
 }
@@ -133,8 +143,8 @@ fn last_pc() {
     case.state.current.0[place::PC] = 65_535;
     case.code_word = [7, 8, 9, 10];
     let finished = finish(&case);
-    assert_eq!(finished.code_read.map(|read| read.index), Some(16_383));
-    assert_eq!(finished.fetch, Fetch::Code(7));
+    assert_eq!(before(&finished).code_read.map(|read| read.index), Some(16_383));
+    assert_eq!(before(&finished).fetch, Fetch::Code(7));
     assert_eq!(finished.state.current.0[place::PC], 0);
 }
 
@@ -160,24 +170,58 @@ fn pubdata_of_a_return() {
     assert_eq!(refusal(&case), 11);
 }
 
-/// No whole cycle comes to these two places; the functions alone do.
+/// No whole cycle comes to these two refusals.
 #[test]
-fn places_of_functions_alone() {
-    let oracle = Oracle::new();
-    let machine_of = |case: &Case| machine(to_local_state(&case.state), U256(case.code_word), to_primitive(case.source));
-    let number = |place: Place| places::refusal_at(&place).map(|refusal| refusal.number);
+fn ends_of_execute_alone() {
+    let limit = BUILT_WITH.limit;
+    for kind in 0..3 {
+        let mut case = alone(operation::RETURN, 0);
+        case.records.plain.return_kind = kind;
+        assert_eq!(refusal(&case), 8);
+        case.state.current.0[place::LOCAL] = 0;
+        assert_eq!(refusal(&case), 7);
+    }
+    assert_eq!(refusal(&alone(operation::NEAR_CALL, limit)), 9);
+    assert_eq!(finish(&alone(operation::NEAR_CALL, limit - 1)).state.depth(), limit);
+    assert_eq!(finish(&alone(operation::RETURN, limit)).state.depth(), limit - 1);
+}
 
-    let mut case = calm(operation::RETURN);
-    case.state.saved.clear();
-    let mut ended = machine_of(&case);
-    let closed = oracle.catch(|| ended.finish_frame(0, false));
-    assert_eq!(closed.err().and_then(number), Some(8));
+#[test]
+fn what_execute_alone_changes() {
+    // depth, time and pc after it
+    for (depth, time, pc) in [(0, 70, 9), (1, 74, 10)] {
+        let mut case = alone(operation::NEAR_CALL, depth);
+        case.state.timestamp = 70;
+        case.state.current.0[place::PC] = 9;
+        case.state.current.0[place::ERGS] = 5;
+        case.records.plain.imm_0 = 1000;
+        let finished = finish(&case);
+        let caller = finished.state.saved.last().map(|row| row.0[place::PC]);
+        assert_eq!((finished.state.timestamp, finished.state.cycle_counter), (time, 1));
+        assert_eq!((caller, finished.state.current.0[place::PC]), (Some(pc), 1000));
+        assert_eq!((finished.before, finished.event), (None, Event::Opened));
+    }
+}
 
-    case.state.saved = vec![case.state.current; BUILT_WITH.limit as usize];
-    let mut full = machine_of(&case);
-    let entry = *full.local_state.callstack.get_current_stack();
-    let opened = oracle.catch(|| full.start_frame(0, entry));
-    assert_eq!(opened.err().and_then(number), Some(9));
+#[test]
+fn what_execute_alone_looks_at() {
+    let mut case = alone(operation::RETURN, 1);
+    case.records.panic.operation = 6;
+    case.records.nop.dst0 = 16;
+    assert_eq!(finish(&case).state.depth(), 0);
+    case.records.plain.dst0 = 16;
+    assert_eq!(refusal(&case), 3);
+
+    let mut case = alone(operation::NEAR_CALL, 1);
+    case.state.cycle_counter = u32::MAX;
+    assert_eq!(refusal(&case), 14);
+    case.state.cycle_counter = 0;
+    case.state.timestamp = u32::MAX - BUILT_WITH.time_step + 1;
+    assert_eq!(refusal(&case), 14);
+    case.state.current.0[place::ADDRESSES] = 1;
+    case.state.registers[0].is_pointer = true;
+    case.records.plain.src0 = 1;
+    assert_eq!(refusal(&case), 6);
 }
 
 #[test]
@@ -185,9 +229,7 @@ fn lines_are_read_back() {
     for number in 0..500 {
         let case = cases::case(1, number);
         let line = case_line(&case);
-        // the format has no limit above 16
-        let is_stated = case.settings.limit <= MOST_ROWS;
-        assert_eq!(read_case(line.as_bytes()), is_stated.then_some(case));
+        assert_eq!(read_case(line.as_bytes()), Some(case));
         for bad in [
             format!("{line} 0"),
             format!("{line} "),
@@ -203,42 +245,76 @@ fn lines_are_read_back() {
 
 #[test]
 fn every_field_has_a_name() {
-    let finished = finish(&calm(operation::NOP));
-    assert_eq!(finished_names(&finished).len(), finished_line(&finished).split(' ').count() - 1);
+    for case in [calm(operation::NOP), alone(operation::NOP, 1)] {
+        let finished = finish(&case);
+        assert_eq!(finished_names(&finished).len(), finished_line(&finished).split(' ').count() - 1);
+    }
 }
 
-/// What the cases of one seed reach: all operations, kinds, conditions and flags that finish, and every place of the table.
+/// What the whole cycles of one seed reach: all operations, kinds, conditions and flags that finish, and every place of the table but two.
 #[test]
 fn cases_reach_the_domain() {
     let oracle = Oracle::new();
     let mut finished = BTreeSet::new();
     let mut refused = BTreeSet::new();
-    for number in 0..20_000 {
-        let case = cases::case(1, number);
+    for case in cases::all(1, 20_000).filter(|case| case.part == Part::Cycle) {
         let answer = oracle.run(&case);
         let plain = &case.records.plain;
-        if let Outcome::Finished(cycle) = &answer.outcome {
-            finished.insert(("operation", u64::from(answer.kept.unwrap_or(operation::OTHER))));
-            finished.insert(("condition", plain.condition.into()));
-            finished.insert(("depth", case.state.depth().into()));
-            finished.insert(("error flags", cycle.error_flags & cycle.error_flags.wrapping_neg()));
-            finished.insert(("code read", cycle.code_read.is_some().into()));
-            if cycle.error_flags == 0 {
-                finished.insert(("source kind", plain.source_kind.into()));
-                finished.insert(("destination kind", plain.destination_kind.into()));
-                finished.insert(("return kind", plain.return_kind.into()));
-            }
-        }
         refused.extend(answer.outcome.refusal().map(|refusal| refusal.number));
+        let (Outcome::Finished(cycle), Some(kept)) = (&answer.outcome, answer.kept) else {
+            continue;
+        };
+        let before = before(cycle);
+        finished.insert(("operation", u64::from(case.records.kept(kept).operation)));
+        finished.insert(("condition", plain.condition.into()));
+        finished.insert(("depth", case.state.depth().into()));
+        finished.insert(("error flags", before.error_flags & before.error_flags.wrapping_neg()));
+        finished.insert(("code read", before.code_read.is_some().into()));
+        if before.error_flags == 0 {
+            finished.insert(("source kind", plain.source_kind.into()));
+            finished.insert(("destination kind", plain.destination_kind.into()));
+            finished.insert(("return kind", plain.return_kind.into()));
+        }
     }
     let count = |name| finished.iter().filter(|entry| entry.0 == name).count();
-    assert_eq!(count("operation"), 5);
-    assert_eq!(count("condition"), 8);
-    assert_eq!(count("depth"), BUILT_WITH.limit as usize + 1);
-    assert_eq!(count("error flags"), 6);
-    assert_eq!(count("code read"), 2);
-    assert_eq!(count("source kind"), 6);
-    assert_eq!(count("destination kind"), 4);
-    assert_eq!(count("return kind"), 3);
+    assert_eq!(["operation", "condition", "code read"].map(count), [5, 8, 2]);
+    assert_eq!(["source kind", "destination kind", "return kind"].map(count), [6, 4, 3]);
+    assert_eq!(["depth", "error flags"].map(count), [BUILT_WITH.limit as usize + 1, 6]);
     assert_eq!(Vec::from_iter(refused), [1, 3, 4, 5, 6, 7, 10, 11, 12, 13, 14]);
+}
+
+/// The same for execute alone, with the two refusals that no whole cycle comes to.
+#[test]
+fn cases_reach_execute_alone() {
+    let oracle = Oracle::new();
+    let mut events = BTreeSet::new();
+    let mut refused = BTreeSet::new();
+    let mut panicked_at_0 = BTreeSet::new();
+    for case in cases::all(1, 20_000).filter(|case| case.part == Part::Execute) {
+        let outcome = oracle.run(&case).outcome;
+        let plain = &case.records.plain;
+        let number = outcome.refusal().map(|refusal| refusal.number);
+        refused.extend(number);
+        match outcome {
+            Outcome::Finished(finished) if plain.operation >= operation::NEAR_CALL => {
+                let kind = if plain.operation == operation::RETURN {
+                    plain.return_kind
+                } else {
+                    0
+                };
+                events.insert((plain.operation, kind, finished.event));
+            }
+            Outcome::Panicked(_) if case.state.has_ended() => panicked_at_0.extend(number),
+            _ => {}
+        }
+    }
+    let reached = [
+        (operation::NEAR_CALL, 0, Event::Opened),
+        (operation::RETURN, return_kind::OK, Event::Closed { panicked: false }),
+        (operation::RETURN, return_kind::REVERT, Event::Closed { panicked: true }),
+        (operation::RETURN, return_kind::PANIC, Event::Closed { panicked: true }),
+    ];
+    assert_eq!(Vec::from_iter(events), reached);
+    assert_eq!(Vec::from_iter(refused), [1, 3, 5, 6, 7, 8, 9, 10, 11, 12, 13, 14]);
+    assert_eq!(Vec::from_iter(panicked_at_0), [8]);
 }

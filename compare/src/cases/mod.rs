@@ -2,6 +2,7 @@
 
 mod records;
 mod returns;
+mod short;
 mod spoil;
 mod values;
 
@@ -9,12 +10,41 @@ use crate::case::*;
 use crate::oracle::BUILT_WITH;
 use crate::random::Random;
 
-/// The case with this number of those that the seed makes.
+/// One case in so many is about execute alone.
+const ALONE: u64 = 8;
+
+/// So many cases that the seed makes.
+pub fn all(seed: u64, count: u64) -> impl Iterator<Item = Case> {
+    (0..count).map(move |number| case(seed, number))
+}
+
+/// The case with this number: some 4 in 100 are spoiled.
 pub fn case(seed: u64, number: u64) -> Case {
-    let mut maker = Maker {
-        random: Random::of_case(seed, number),
-    };
-    let mut case = maker.case();
+    let mut maker = Maker::new(seed, number);
+    let mut case = maker.case(number);
+    if maker.random.per_mille(40) {
+        maker.spoil(&mut case);
+    }
+    case
+}
+
+/// One for a list: its line is short, but for some, which keep all their fields, so that one taken for another shows.
+pub fn short(seed: u64, number: u64) -> Case {
+    let mut maker = Maker::new(seed, number);
+    let mut case = maker.case(number);
+    maker.drop_rows(&mut case.state.saved);
+    if case.state.depth() > 3 || maker.random.below(14) != 0 {
+        maker.shorten(&mut case);
+    }
+    case
+}
+
+/// A short one that is spoiled.
+pub fn short_spoiled(seed: u64, number: u64) -> Case {
+    let mut maker = Maker::new(seed, number);
+    let mut case = maker.case(number);
+    maker.drop_rows(&mut case.state.saved);
+    maker.shorten(&mut case);
     maker.spoil(&mut case);
     case
 }
@@ -24,16 +54,46 @@ struct Maker {
 }
 
 impl Maker {
-    fn case(&mut self) -> Case {
-        let depth = self.depth();
-        let mut current = self.row();
-        current.0[place::LOCAL] = (!self.random.per_mille(100)).into();
+    fn new(seed: u64, number: u64) -> Self {
+        Self {
+            random: Random::of_case(seed, number),
+        }
+    }
+
+    fn case(&mut self, number: u64) -> Case {
+        if number % ALONE == ALONE - 1 {
+            self.execute()
+        } else {
+            self.cycle()
+        }
+    }
+
+    fn cycle(&mut self) -> Case {
+        let depth = self.depth([60, 120]);
+        let current = self.current();
         let pending_exception = self.random.per_mille(if depth == 0 { 60 } else { 80 });
         let plain = self.plain(&current, depth == 0, pending_exception);
         let left = current.0[place::ERGS].saturating_sub(plain.price);
-        let mut state = self.state(current, depth, pending_exception, left);
+        let state = self.state(current, depth, pending_exception, left);
+        self.of_state(Part::Cycle, state, plain, left)
+    }
+
+    /// Nothing is charged, and any state may be that in mid-cycle.
+    fn execute(&mut self) -> Case {
+        let depth = self.depth([200, 250]);
+        let current = self.current();
+        let plain = self.kept(&current);
+        let left = current.0[place::ERGS];
+        let pending_exception = self.random.per_mille(80);
+        let state = self.state(current, depth, pending_exception, left);
+        self.of_state(Part::Execute, state, plain, left)
+    }
+
+    /// The case of this state, whose current frame holds `left` after the charge.
+    fn of_state(&mut self, part: Part, mut state: State, plain: Record, left: u32) -> Case {
         self.settle_return(&mut state, left);
         Case {
+            part,
             settings: BUILT_WITH,
             state,
             records: Records {
@@ -49,15 +109,24 @@ impl Maker {
         }
     }
 
-    /// Depth 0, the limit and what is between.
-    fn depth(&mut self) -> u32 {
+    /// Depth 0 and the limit, each in so many of a thousand, and what is between.
+    fn depth(&mut self, [ended, full]: [u32; 2]) -> u32 {
         let limit = BUILT_WITH.limit;
-        match self.random.below(100) {
-            0..6 => 0,
-            6..18 => limit,
-            _ if limit > 1 => 1 + self.random.below(limit - 1),
-            _ => limit,
+        let part = self.random.below(1000);
+        if part < ended {
+            0
+        } else if part < ended + full || limit == 1 {
+            limit
+        } else {
+            1 + self.random.below(limit - 1)
         }
+    }
+
+    /// A current frame, mostly a local one.
+    fn current(&mut self) -> Row {
+        let mut current = self.row();
+        current.0[place::LOCAL] = (!self.random.per_mille(100)).into();
+        current
     }
 
     /// A frame that is good, each field with its edges.

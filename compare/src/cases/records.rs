@@ -17,6 +17,20 @@ const OPERATIONS: [u8; 10] = [
     operation::RETURN,
 ];
 
+/// The same for execute alone.
+const OPERATIONS_ALONE: [u8; 10] = [
+    operation::NOP,
+    operation::ADD,
+    operation::SUB,
+    operation::NEAR_CALL,
+    operation::NEAR_CALL,
+    operation::NEAR_CALL,
+    operation::RETURN,
+    operation::RETURN,
+    operation::RETURN,
+    operation::RETURN,
+];
+
 const DESTINATIONS: [u8; 4] = [kind::REGISTER, kind::PUSH_POP, kind::STACK_OFFSET, kind::ABSOLUTE_STACK];
 
 impl Maker {
@@ -39,6 +53,16 @@ impl Maker {
         record
     }
 
+    /// A record that execute alone finds kept: no swap, and the source a register or an immediate.
+    pub fn kept(&mut self, current: &Row) -> Record {
+        Record {
+            operation: self.random.pick(&OPERATIONS_ALONE),
+            source_kind: self.random.pick(&[kind::REGISTER, kind::REGISTER, kind::IMMEDIATE]),
+            swap: false,
+            ..self.plain(current, false, false)
+        }
+    }
+
     /// A price, often about the ergs held.
     fn price(&mut self, ergs: u32) -> u32 {
         match self.random.below(20) {
@@ -54,7 +78,7 @@ impl Maker {
     }
 
     /// A record of any operation from 0 to 4 with fields within their lists.
-    fn record(&mut self) -> Record {
+    pub fn record(&mut self) -> Record {
         let [imm_0, imm_1] = [self.narrow(), self.narrow()];
         let random = &mut self.random;
         Record {

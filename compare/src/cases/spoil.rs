@@ -3,42 +3,71 @@
 use super::Maker;
 use crate::case::*;
 
+/// Fields of a row, with the least value that makes it not good.
+const NOT_GOOD: [(usize, u32); 8] = [
+    (place::SP, 1 << 16),
+    (place::PC, 1 << 16),
+    (place::HANDLER, 1 << 16),
+    (place::SHARDS, 1 << 8),
+    (place::SHARDS + 1, 1 << 8),
+    (place::SHARDS + 2, 1 << 8),
+    (place::STATIC, 2),
+    (place::LOCAL, 2),
+];
+
 impl Maker {
-    /// Takes a few cases out of the domain: some 4 in 100, not all of which are then refused.
+    /// Does to a case what may take it out of the domain; not all are then refused.
     pub fn spoil(&mut self, case: &mut Case) {
-        let records = &mut case.records;
-        match self.random.below(400) {
+        let Case { state, records, .. } = case;
+        match self.random.below(18) {
             0 => self.spoil_settings(&mut case.settings),
             1 => {
-                while case.state.depth() <= case.settings.limit && case.state.depth() < MOST_ROWS {
-                    case.state.saved.push(Row([0; ROW]));
-                }
+                // the format has no more rows than the greatest limit
+                let limit = case.settings.limit.min(MOST_ROWS - 1);
+                case.settings.limit = limit;
+                state.saved.resize(limit as usize + 1, Row([0; ROW]));
             }
             2 => {
-                let place = self
-                    .random
-                    .pick(&[place::SP, place::PC, place::HANDLER, place::SHARDS, place::STATIC, place::LOCAL]);
-                if let Some(row) = case.state.saved.last_mut() {
-                    row.0[place] = 1 << 16;
+                let (place, value) = self.random.pick(&NOT_GOOD);
+                if let Some(row) = state.saved.last_mut() {
+                    row.0[place] = value;
                 }
             }
             3 | 4 => self.spoil_field(&mut records.plain),
             5 => self.spoil_field(&mut records.panic),
             6 => self.spoil_field(&mut records.nop),
-            7 => records.panic.return_kind = return_kind::REVERT,
-            8 => records.panic.operation = operation::NOP,
-            9 => records.nop.operation = operation::ADD,
-            10..13 => records.plain.operation = operation::OTHER,
-            13 => records.plain.operation = operation::ADD,
+            7 => records.panic.return_kind = self.random.pick(&[return_kind::OK, return_kind::REVERT]),
+            8 => records.panic.operation = self.random.below(4) as u8,
+            9 => records.nop.operation = 1 + self.random.below(4) as u8,
+            10 | 11 => records.plain.operation = operation::OTHER,
+            12 => records.plain.operation = self.random.below(5) as u8,
+            13 => records.plain.return_kind = self.random.below(3) as u8,
             14 => records.plain.explicit_panic = true,
-            _ => {}
+            15 => records.plain.kernel_only = true,
+            16 => records.plain.allowed_when_static = false,
+            _ => self.spoil_pointers(case),
+        }
+    }
+
+    /// Every register a pointer, and masked records that name some.
+    fn spoil_pointers(&mut self, case: &mut Case) {
+        for register in case.state.registers.iter_mut().chain([&mut case.source]) {
+            register.is_pointer = true;
+        }
+        for masked in [&mut case.records.panic, &mut case.records.nop] {
+            *masked = Record {
+                operation: masked.operation,
+                return_kind: masked.return_kind,
+                ..self.record()
+            };
         }
     }
 
     fn spoil_settings(&mut self, settings: &mut Settings) {
-        match self.random.below(3) {
-            0 => settings.limit ^= 1,
-            1 => settings.multiplier ^= 1,
+        match self.random.below(4) {
+            0 => settings.limit -= 1,
+            1 => settings.limit = 0,
+            2 => settings.multiplier ^= 1,
             _ => settings.time_step ^= 1,
         }
     }

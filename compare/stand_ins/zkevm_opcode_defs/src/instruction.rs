@@ -1,4 +1,4 @@
-//! The instruction that a test hands in, in place of parsing: document 01's three records.
+//! The instruction that the oracle hands in, in place of parsing: document 01's three records.
 
 use crate::definitions::opcode::{Condition, ImmMemHandlerFlags, NopOpcode, Opcode, Operand};
 use std::cell::Cell;

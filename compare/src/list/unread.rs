@@ -1,0 +1,70 @@
+//! Lines at the ends of what can be read.
+
+use crate::case::{Case, Part};
+use crate::cases;
+use crate::format;
+use crate::oracle::{Oracle, Outcome};
+
+/// The least number that is too large for a flag, a limit, and 8, 16, 32 and 64 bits.
+const TOO_LARGE: [u128; 6] = [2, 17, 1 << 8, 1 << 16, 1 << 32, 1 << 64];
+
+/// For each number of a case that finishes at depth 1, the line with the least number there that cannot be read, and with the greatest that can,
+/// where an answer is owed to that. Then lines that are no list of numbers, and leading zeros.
+pub fn lines(seed: u64) -> Vec<String> {
+    let oracle = Oracle::new();
+    let is_plain = |case: &Case| case.part == Part::Cycle && case.state.depth() == 1;
+    let base = (0..)
+        .map(|number| cases::short(seed, number))
+        .find(|case| is_plain(case) && matches!(oracle.run(case).outcome, Outcome::Finished(_)))
+        .expect("the numbers do not end");
+    let line = format::case_line(&base);
+    let mut lines = malformed(&line);
+    for place in 0..line.split(' ').count() {
+        let is_unread = |number: &u128| format::read_case(with_number(&line, place, *number).as_bytes()).is_none();
+        let least = TOO_LARGE.into_iter().find(is_unread).expect("no field has more than 64 bits");
+        lines.push(with_number(&line, place, least));
+        lines.push(with_number(&line, place, least - 1));
+    }
+    lines.retain(|line| is_owed(&oracle, line));
+    lines
+}
+
+fn with_number(line: &str, place: usize, number: u128) -> String {
+    let mut numbers: Vec<_> = line.split(' ').map(String::from).collect();
+    numbers[place] = number.to_string();
+    numbers.join(" ")
+}
+
+fn is_owed(oracle: &Oracle, line: &str) -> bool {
+    let Some(case) = format::read_case(line.as_bytes()) else {
+        return true;
+    };
+    let outcome = oracle.run(&case).outcome;
+    outcome.refusal().is_some() || matches!(outcome, Outcome::Finished(_))
+}
+
+/// A case with something wrong, and at the end one with nothing wrong but leading zeros.
+fn malformed(line: &str) -> Vec<String> {
+    let before = [
+        "+",
+        "-",
+        " ",
+        "x",
+        ",",
+        "cycle ",
+        "Execute ",
+        "executes ",
+        " execute ",
+        "execute  ",
+        "execute execute ",
+    ];
+    let after = [" ", " 0", "x", ".", "\r", "\t"];
+    let between = ["  ", "\t", ",", " x", " -", ""];
+    let mut lines = vec![String::new(), "0".into(), "execute".into(), "execute ".into()];
+    lines.extend(before.map(|text| format!("{text}{line}")));
+    lines.extend(after.map(|text| format!("{line}{text}")));
+    lines.extend(between.map(|text| line.replacen(' ', text, 1)));
+    lines.extend(line.rsplit_once(' ').map(|(start, _)| start.to_string()));
+    lines.push(format!("{}{line}", "0".repeat(40)));
+    lines
+}
