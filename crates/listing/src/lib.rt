@@ -12,6 +12,9 @@ use cycle::State;
 use table::Line;
 use table::Start;
 
+// An input of so many bytes is too long, so a buffer of this size shows one that is.
+pub const TOO_LONG: usize = 65537;
+
 // Room for the longest listing: 20 bytes for each byte of the longest input, and 128 for the names line and what ends the listing.
 pub const ROOM: usize = 1310848;
 
@@ -167,7 +170,7 @@ pub fn listing(input: &[u8], buffer: &mut [u8; ROOM]) -> usize
         × (drop r (now (buffer .exit)) ≡ drop r (now (buffer .entry))) ⌝ }
 {
     let position = text::put_bytes(buffer, 0, b"cycle op charge depth held total own\n");
-    if 65536 < input.len() {
+    if TOO_LONG <= input.len() {
         return table::put_bad_line(buffer, position, 0);
     }
     from_first(input, buffer, position)

@@ -2,11 +2,8 @@
 use libc::STDIN_FILENO;
 use libc::STDOUT_FILENO;
 
-// One byte more than a list may have, so that one that is too long is seen.
-const MOST: usize = 65537;
-
 fn main() {
-    let mut input = [0u8; MOST];
+    let mut input = [0u8; listing::TOO_LONG];
     let size = io::read_full(STDIN_FILENO, &mut input);
     let mut buffer = [0u8; listing::ROOM];
     let printed = listing::listing(&input[..size], &mut buffer);

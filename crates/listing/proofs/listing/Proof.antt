@@ -1,5 +1,6 @@
 use lib.ListN.{length}
 use mathlib.Core.Path.{_≡_}
+use native.Mathlib.Omega.{arith}
 use Rattle.listing.proofs.RoomLaws as laws
 use borrow.Author.Needs.{needs}
 use Rattle.listing.proofs.listing.Statement.{statement}
@@ -29,7 +30,7 @@ returns-2 c =
     let p2 = c .before .before in
     let p3 = p2 .before in
     let p7 = p3 .before .before .before .before in
-    let room : length (p7 .args .buffer .now) ≡ 1310848 = search needs in laws.short (p7 .args .input .now) (p7 .args .buffer .now) room (p3 .put-bytes .ensures) (p2 .if1 .left) (c .from-first .ensures)
+    let room : length (p7 .args .buffer .now) ≡ 1310848 = search needs in laws.short (p7 .args .input .now) (p7 .args .buffer .now) room (p3 .put-bytes .ensures) (omega (arith, p2 .if1 .left)) (c .from-first .ensures)
 
 pub listing-spec : {M : Type 1} → statement M
 listing-spec =
