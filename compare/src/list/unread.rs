@@ -1,6 +1,6 @@
 //! Lines at the ends of what can be read.
 
-use crate::case::{Case, Part};
+use crate::case::{Case, Part, MOST_ROWS};
 use crate::cases;
 use crate::format;
 use crate::oracle::{Oracle, Outcome};
@@ -9,7 +9,7 @@ use crate::oracle::{Oracle, Outcome};
 const TOO_LARGE: [u128; 6] = [2, 17, 1 << 8, 1 << 16, 1 << 32, 1 << 64];
 
 /// For each number of a case that finishes at depth 1, the line with the least number there that cannot be read, and with the greatest that can,
-/// where an answer is owed to that. Then lines that are no list of numbers, and leading zeros.
+/// where an answer is owed to that. Before them lines that are no list of numbers, leading zeros, and more rows than are served.
 pub fn lines(seed: u64) -> Vec<String> {
     let oracle = Oracle::new();
     let is_plain = |case: &Case| case.part == Part::Cycle && case.state.depth() == 1;
@@ -19,6 +19,7 @@ pub fn lines(seed: u64) -> Vec<String> {
         .expect("the numbers do not end");
     let line = format::case_line(&base);
     let mut lines = malformed(&line);
+    lines.extend([MOST_ROWS, MOST_ROWS + 1].map(|depth| format::case_line(&with_depth(&base, depth))));
     for place in 0..line.split(' ').count() {
         let is_unread = |number: &u128| format::read_case(with_number(&line, place, *number).as_bytes()).is_none();
         let least = TOO_LARGE.into_iter().find(is_unread).expect("no field has more than 64 bits");
@@ -27,6 +28,12 @@ pub fn lines(seed: u64) -> Vec<String> {
     }
     lines.retain(|line| is_owed(&oracle, line));
     lines
+}
+
+fn with_depth(case: &Case, depth: u32) -> Case {
+    let mut case = case.clone();
+    case.state.saved = vec![case.state.current; depth as usize];
+    case
 }
 
 fn with_number(line: &str, place: usize, number: u128) -> String {
@@ -60,7 +67,8 @@ fn malformed(line: &str) -> Vec<String> {
     ];
     let after = [" ", " 0", "x", ".", "\r", "\t"];
     let between = ["  ", "\t", ",", " x", " -", ""];
-    let mut lines = vec![String::new(), "0".into(), "execute".into(), "execute ".into()];
+    let too_long = "0".repeat(70_000);
+    let mut lines = vec![String::new(), "0".into(), too_long, "execute".into(), "execute ".into()];
     lines.extend(before.map(|text| format!("{text}{line}")));
     lines.extend(after.map(|text| format!("{line}{text}")));
     lines.extend(between.map(|text| line.replacen(' ', text, 1)));
