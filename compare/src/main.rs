@@ -22,7 +22,7 @@ use std::process::ExitCode;
 const USAGE: &str = "usage: compare cases SEED COUNT            print cases
        compare list SEED COUNT            print short cases that show all there is in the domain
        compare list-outside SEED COUNT    the same for what is refused outside it
-       compare list-unread SEED           lines at the ends of what can be read
+       compare list-unread SEED           lines that cannot be read, or only just
        compare oracle < CASES             what the Rust does on each
        compare expected < CASES           what the port owes on each
        compare run REPLAY_BIN SEED COUNT  compare the two";

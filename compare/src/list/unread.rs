@@ -1,4 +1,4 @@
-//! Lines at the ends of what can be read.
+//! Lines that cannot be read, or only just.
 
 use crate::case::{Case, Part, MOST_ROWS};
 use crate::cases;
@@ -8,8 +8,8 @@ use crate::oracle::{Oracle, Outcome};
 /// The least number that is too large for a flag, a limit, and 8, 16, 32 and 64 bits.
 const TOO_LARGE: [u128; 6] = [2, 17, 1 << 8, 1 << 16, 1 << 32, 1 << 64];
 
-/// For each number of a case that finishes at depth 1, the line with the least number there that cannot be read, and with the greatest that can,
-/// where an answer is owed to that. Before them lines that are no list of numbers, leading zeros, and more rows than are served.
+/// Lines that are no list of numbers, leading zeros, and as many rows as are served and one more. Then, for each number of a case that finishes
+/// at depth 1, the line with the least number there that cannot be read.
 pub fn lines(seed: u64) -> Vec<String> {
     let oracle = Oracle::new();
     let is_plain = |case: &Case| case.part == Part::Cycle && case.state.depth() == 1;
@@ -24,9 +24,7 @@ pub fn lines(seed: u64) -> Vec<String> {
         let is_unread = |number: &u128| format::read_case(with_number(&line, place, *number).as_bytes()).is_none();
         let least = TOO_LARGE.into_iter().find(is_unread).expect("no field has more than 64 bits");
         lines.push(with_number(&line, place, least));
-        lines.push(with_number(&line, place, least - 1));
     }
-    lines.retain(|line| is_owed(&oracle, line));
     lines
 }
 
@@ -40,14 +38,6 @@ fn with_number(line: &str, place: usize, number: u128) -> String {
     let mut numbers: Vec<_> = line.split(' ').map(String::from).collect();
     numbers[place] = number.to_string();
     numbers.join(" ")
-}
-
-fn is_owed(oracle: &Oracle, line: &str) -> bool {
-    let Some(case) = format::read_case(line.as_bytes()) else {
-        return true;
-    };
-    let outcome = oracle.run(&case).outcome;
-    outcome.refusal().is_some() || matches!(outcome, Outcome::Finished(_))
 }
 
 /// A case with something wrong, and at the end one with nothing wrong but leading zeros.
