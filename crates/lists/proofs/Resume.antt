@@ -199,10 +199,11 @@ module _ (M : Machine) (L : Laws M) (call : Cycle M) where
 
 module _ (M : Machine) (L : Laws M) where
   pub callers-resume : CallersResume M
-  unfolding eventsOf opened closed charges sum savedErgs
+  unfolding eventsOf opened closed charges sum savedErgs share
   callers-resume calls s store call between close t e l =
       let f = follow M L t in
       let x = does M L (f .0) (f .1) call (between ++ (close ∷ [])) (t .later) (f .2) in
+      let z : OpensFrame M (call .execute .input) (call .execute .state) (call .execute .store) (result M call) = rw e at (x .performs) in
       let one : opens (operation M call) ≡ 1 = ap opens e in
       let none : closes (operation M call) ≡ 0 = ap closes e in
       let a =
@@ -220,4 +221,4 @@ module _ (M : Machine) (L : Laws M) where
       (f .2 .3 .3 .3 .3)
       (omega (arith, l .as-many, one, none), λ i h q. l .not-before (suc i) (omega arith) (omega arith) (omega (arith, q, one, none)))
       (over-call M call e x) in
-      record { current = omega (arith, a .deep); same = a .same; exact = omega (arith, a .total); no-less = a .enough; below = a .below }
+      record { current = omega (arith, a .deep); same = a .same; exact = omega (arith, a .total); divided = omega (arith, z .kept-back, x .spends .ergs-less); no-less = a .enough; below = a .below }

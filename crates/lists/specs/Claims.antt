@@ -7,10 +7,10 @@ use mathlib.Core.List.{List, [], _∷_, _++_}
 use lib.ListN.{length, take}
 use Rattle.lists.specs.Machine.{Machine, Stage, ready, fetched, decoded, addressed, nearCall, firstRows}
 use Rattle.lists.specs.Lists.{Call, Event, trace, finishedOf, Cycle, eventsOf, InTurn}
-use Rattle.lists.specs.Lists.{before, storeBefore, result, charges, operation, opened, closed, share}
+use Rattle.lists.specs.Lists.{before, storeBefore, result, charge, charges, operation, opened, closed, share}
 
 module _ (M : Machine) where
-  open Machine M using (State, ergs, lasting, depth, stage)
+  open Machine M using (State, ergs, lasting, depth, stage, passes)
 
   -- ---- what a caller holds when the frame of its near call closes
   -- "A near call's frame closes with the first cycle by which, from the near call's own on, as many have closed as opened." Of these cycles that is the last.
@@ -26,6 +26,8 @@ module _ (M : Machine) where
     -- "its caller then holds exactly the ergs it had before that near call's cycle less the charge of each cycle from the near call to the closing return, both
     -- counted"
     pub exact : ergs (result M close .state) + charged ≡ ergs (before M call)
+    -- "The share kept back is the caller's ergs before that cycle, less its charge and what Execute's rule passes": the three are all that it held.
+    pub divided : share M call + charge M call + passes (call .execute .input) (call .execute .state) ≡ ergs (before M call)
     -- "It holds no less than the share it kept back"
     pub no-less : share M call ≤ ergs (result M close .state)
     -- "every frame saved below it is word for word as it was before that near call's cycle"; "Saved below are the first rows of the store, as many as the depth was

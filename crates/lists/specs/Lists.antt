@@ -109,7 +109,7 @@ module _ (M : Machine) where
   unfoldable pub closed : List (Cycle M) → ℕ
   closed cs = sum (λ (c : Cycle M). closes (operation c)) cs
 
-  -- "The share kept back is the caller's ergs before that cycle, less its charge and what Execute's rule passes." (Nothing is cut off at 0: the
-  -- charge is at most the ergs held, and what is passed at most the rest.)
+  -- "The share kept back is the caller's ergs before that cycle, less its charge and what Execute's rule passes." Nothing is cut off at 0: the claim says so
+  -- (`divided`).
   unfoldable pub share : Cycle M → ℕ
   share c = ergs (before c) - charge c - passes (c .execute .input) (c .execute .state)
