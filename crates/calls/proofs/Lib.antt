@@ -6,3 +6,4 @@ pub mod AnswersLaws
 pub mod WordUnread
 pub mod EdgesHold
 pub mod Example
+pub mod Nested
