@@ -22,7 +22,10 @@ use Rattle.cycle.specs.declared.OperandsAnswer.{OperandsAnswer}
 use Rattle.cycle.specs.State.{badStore, outOfTurn, decoded}
 use Rattle.cycle.specs.Operands.{recordOf, stackPage, placesIn, operandsRefusal, addressedState, operandsDone, operandsOf}
 use Rattle.cycle.specs.Execute.{sourcesIn, executeDone, executeOf, executeStore}
-use Rattle.calls.specs.SourceWord.{ExecutesAlike, WordUnread}
+use Rattle.cycle.specs.Fetch.{codeWanted, locationIf, queryOf, fetchDone, fetchOf}
+use Rattle.cycle.specs.Helpers.{isStored}
+use Rattle.rules.specs.Code.{superPc}
+use Rattle.calls.specs.SourceWord.{ExecutesAlike, WordUnread, CodeUnread}
 use Rattle.calls.proofs.Views.{by-number}
 
 -- a source with no location is not the word read: it is a register, the immediate, or a nop's
@@ -91,3 +94,12 @@ word-unread settings s store destination given later after word other pointer bi
 
     never : {n : ℕ} → OperandsAnswer.Refused n ≡ OperandsAnswer.Done Location.None destination → ⊥
     never e = let z : _≡_ {A = ℕ} 0 1 = cc in omega arith
+
+-- ---- the code word
+no-query : (wanted : Bool) (page index : ℕ) → locationIf wanted page index ≡ Location.None → wanted ≡ false
+no-query true page index e = absurd (subst T (ap isStored e) tt)
+no-query false page index e = refl
+
+pub code-unread : CodeUnread
+unfolding queryOf fetchOf fetchDone
+code-unread settings s store e word other = rw (no-query (codeWanted s) (s .current .«code_page») (superPc (s .current .pc)) e)

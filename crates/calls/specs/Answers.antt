@@ -10,10 +10,12 @@ use lib.Dec.{eqb}
 use Rattle.cycle.specs.declared.State.{State}
 use Rattle.tally.specs.declared.EnterAnswer.{EnterAnswer}
 use Rattle.tally.specs.Tally.{enterOf, tallyAfter}
-use Rattle.lists.specs.Machine.{Outcome, finished}
+use Rattle.cycle.specs.Decode.{decodeOf}
+use Rattle.stepper.specs.Cycle.{decodeCharge}
+use Rattle.lists.specs.Machine.{Outcome, finished, chargeOf}
 use Rattle.lists.specs.Lists.{Call, fetch, decode, operands, execute, outcomeOf}
 use Rattle.lists.specs.Laws.{Unchanged}
-use Rattle.calls.specs.Core.{core}
+use Rattle.calls.specs.Core.{core, DecodeInput, decodeOutcome}
 
 abbrev pub isOneOf : ℕ → List ℕ → Bool
 isOneOf n [] = false
@@ -59,3 +61,9 @@ abbrev pub EveryEntryAnswers : Type 0
 EveryEntryAnswers =
     (tally : List ℕ) (limit before after charge : ℕ)
     → (enterOf tally limit before after charge ≡ EnterAnswer.Entered) ⊎ TallyRefusal tally limit before after charge
+
+-- Document 01: "The answer gives the flags and the charge." Where decode finishes, that charge is the one that demand 3 counts.
+abbrev pub ChargeAnswered : Type 0
+ChargeAnswered =
+    (x : DecodeInput) (s : State) (store : List ℕ) → finished (decodeOutcome x s store) ≡ true
+    → decodeCharge (decodeOf (x .settings) (x .records) s store .answer) ≡ chargeOf core x s

@@ -8,6 +8,7 @@ use Rattle.rules.specs.declared.Settings.{Settings}
 use Rattle.rules.specs.declared.Location.{Location}
 use Rattle.cycle.specs.declared.State.{State}
 use Rattle.cycle.specs.declared.OperandsAnswer.{OperandsAnswer}
+use Rattle.cycle.specs.Fetch.{queryOf, fetchOf}
 use Rattle.cycle.specs.Operands.{operandsOf}
 use Rattle.cycle.specs.Execute.{executeOf, executeStore}
 
@@ -23,3 +24,9 @@ WordUnread =
     → operandsOf settings s store .answer ≡ OperandsAnswer.Done Location.None destination
     → (later : Settings) (after : List ℕ) (word other : U256) (pointer bit : Bool)
     → ExecutesAlike later (operandsOf settings s store .state) after word other pointer bit
+
+-- where the query wanted no code word, fetch does not look at the one it is given. Document 01: "Fetch takes that word, not looked at when none was wanted."
+abbrev pub CodeUnread : Type 0
+CodeUnread =
+    (settings : Settings) (s : State) (store : List ℕ) → queryOf s ≡ Location.None
+    → (word other : U256) → fetchOf settings word s store ≡ fetchOf settings other s store
