@@ -28,6 +28,11 @@ charged tally before charge = set tally before (spent tally before charge)
 abbrev pub entered : List ℕ → ℕ → ℕ → ℕ → List ℕ
 entered tally before after charge = cond (ltb before after) (set (charged tally before charge) after 0) (charged tally before charge)
 
+-- the number of each case, 0 where nothing is refused; neither has other values
+abbrev pub enterNumber : EnterAnswer → ℕ
+enterNumber EnterAnswer.Entered = 0
+enterNumber (EnterAnswer.Refused n) = n
+
 -- the answer for a number: `Entered` for 0, and a refusal by its number
 abbrev pub enterAnswer : ℕ → EnterAnswer
 enterAnswer n = cond (eqb n 0) EnterAnswer.Entered (EnterAnswer.Refused n)

@@ -1,6 +1,7 @@
 // The spend tally: what each frame was charged while it was the current one, by depth.
 ghost use mathlib.Core.Path.{_≡_};
-ghost use Rattle.tally.specs.Tally.{badEntry, enterOf, tallyAfter};
+ghost use Rattle.tally.specs.Tally.{badEntry, enterRefusal, enterNumber, enterOf, tallyAfter};
+ghost use Rattle.tally.specs.Entries.{PlaceHoldsSpend};
 
 pub enum EnterAnswer {
     Entered,
@@ -25,7 +26,8 @@ fn bad_entry(size: usize, limit: u32, before: u32, after: u32) -> bool
 // Enters the charge of a cycle that led from one depth to another.
 pub fn enter(tally: &mut [u64], limit: u32, before: u32, after: u32, charge: u32) -> EnterAnswer
     ensures { λ r. ⌜ (r ≡ enterOf (now (tally .entry)) limit before after charge)
-        × (now (tally .exit) ≡ tallyAfter (now (tally .entry)) limit before after charge) ⌝ }
+        × (now (tally .exit) ≡ tallyAfter (now (tally .entry)) limit before after charge)
+        × (enterNumber r ≡ enterRefusal (now (tally .entry)) limit before after charge) ⌝ }
 {
     if bad_entry(tally.len(), limit, before, after) {
         return EnterAnswer::Refused(REFUSAL);
@@ -41,3 +43,8 @@ pub fn enter(tally: &mut [u64], limit: u32, before: u32, after: u32, charge: u32
     }
     EnterAnswer::Entered
 }
+
+// What the tally is for, in a contract, so that it is proved with every check: after any list of entries the place at a depth holds what its frame spent.
+pub fn place_holds_spend()
+    ensures { λ _. ⌜ PlaceHoldsSpend ⌝ }
+{}

@@ -1,0 +1,58 @@
+-- Lists of entries. Document 01: "A lent list of 64-bit numbers, indexed by depth: a frame's charges while it is the current one." The frame of a depth is the one
+-- that was opened there last.
+use Prim.Native.Nat.{ℕ, _+_}
+use mathlib.Core.Bool.{Bool, false, cond, _&&_, _||_}
+use mathlib.Core.Path.{_≡_}
+use mathlib.Core.List.{List, [], _∷_}
+use lib.Dec.{ltb, eqb}
+use lib.ListN.{getD}
+use Rattle.tally.specs.Tally.{enterRefusal, tallyAfter}
+
+pub record Entry : Type 0 where
+  pub limit : ℕ
+  pub before : ℕ
+  pub after : ℕ
+  pub charge : ℕ
+
+-- ---- entries made one after the other
+abbrev pub afterEntry : List ℕ → Entry → List ℕ
+afterEntry tally e = tallyAfter tally (e .limit) (e .before) (e .after) (e .charge)
+
+unfoldable pub afterEntries : List ℕ → List Entry → List ℕ
+afterEntries tally [] = tally
+afterEntries tally (e ∷ es) = afterEntries (afterEntry tally e) es
+
+-- those that are not refused
+unfoldable pub takenOf : List ℕ → List Entry → List Entry
+takenOf tally [] = []
+takenOf tally (e ∷ es) =
+    cond (eqb (enterRefusal tally (e .limit) (e .before) (e .after) (e .charge)) 0)
+    (e ∷ takenOf (afterEntry tally e) es)
+    (takenOf (afterEntry tally e) es)
+
+-- ---- the frame of a depth
+-- an entry opens the frame of its depth after where that is above its depth before
+abbrev pub opensAt : ℕ → Entry → Bool
+opensAt depth e = ltb (e .before) (e .after) && eqb (e .after) depth
+
+abbrev pub isOpened : ℕ → List Entry → Bool
+isOpened depth [] = false
+isOpened depth (e ∷ es) = opensAt depth e || isOpened depth es
+
+-- the entries after the last one that opened the frame of a depth; all where none did
+abbrev pub sinceOpening : ℕ → List Entry → List Entry
+sinceOpening depth [] = []
+sinceOpening depth (e ∷ es) = cond (isOpened depth es) (sinceOpening depth es) (cond (opensAt depth e) es (e ∷ es))
+
+-- what the frame of a depth spent in these entries: the charges while it is the current one, which are those at its depth
+abbrev pub spendOf : ℕ → List Entry → ℕ
+spendOf depth [] = 0
+spendOf depth (e ∷ es) = cond (eqb (e .before) depth) (e .charge) 0 + spendOf depth es
+
+-- Whatever the entries, refused ones among them, the place at a depth holds what its frame spent since it was opened; of a frame that was there before the list,
+-- what the place held then is counted, too.
+abbrev pub PlaceHoldsSpend : Type 0
+PlaceHoldsSpend =
+    (tally : List ℕ) (entries : List Entry) (depth : ℕ)
+    → getD (afterEntries tally entries) depth 0
+    ≡ cond (isOpened depth (takenOf tally entries)) 0 (getD tally depth 0) + spendOf depth (sinceOpening depth (takenOf tally entries))
