@@ -1,5 +1,5 @@
--- The number of each stage's answer is that of the first check that holds. Assumes nothing.
-use Prim.Native.Nat.{ℕ, _-_, _/_, _≤_, _<_}
+-- The number of each stage's answer is that of the first check that holds, and what it tells is what document 01 says. Assumes nothing.
+use Prim.Native.Nat.{ℕ, _+_, _-_, _/_, _≤_, _<_}
 use mathlib.Core.Bool.{Bool, true, false, not, cond, _&&_, _||_}
 use mathlib.Core.Path.{_≡_, refl, sym, ap, _∙_, subst}
 use mathlib.Core.List.{List, [], _∷_, _++_}
@@ -7,13 +7,17 @@ use native.Mathlib.Omega.{arith}
 use lib.Dec.{T, eqb, leb, ltb}
 use lib.ListN.{length}
 use borrow.Author.Tests.{eqb-true, eqb-false, eq-eqb, lt-ltb, ltb-false, leb-true, not-false}
+use mir.Val.{boolByte}
 use Rattle.u256.specs.declared.U256.{U256}
+use Rattle.u256.specs.U256.{valueOf}
 use Rattle.frame.specs.declared.ReadAnswer.{ReadAnswer}
 use Rattle.frame.specs.Refusal.{Check, firstOf, _refuses_}
 use Rattle.frame.specs.Row.{rowWidth, goodRow}
 use Rattle.frame.specs.Store.{wholeRows, readOf}
 use Rattle.rules.specs.declared.Settings.{Settings}
 use Rattle.rules.specs.declared.Records.{Records}
+use Rattle.rules.specs.declared.Location.{Location}
+use Rattle.rules.specs.Code.{superPc}
 use Rattle.rules.specs.Record.{goodRecord}
 use Rattle.rules.specs.Ret.{ergsPast, isShrunk}
 use Rattle.rules.proofs.RefusalLaws.{clear, numbered}
@@ -26,15 +30,16 @@ use Rattle.cycle.specs.declared.FetchAnswer.{FetchAnswer}
 use Rattle.cycle.specs.declared.DecodeAnswer.{DecodeAnswer}
 use Rattle.cycle.specs.declared.OperandsAnswer.{OperandsAnswer}
 use Rattle.cycle.specs.State.{addressed, isEnded, badStore, outOfTurn, settled}
-use Rattle.cycle.specs.Fetch.{codeAnswer, fetchRefusal, fetchDone, fetchOf}
+use Rattle.cycle.specs.Fetch.{codeWanted, locationIf, queryOf, codeAnswer, fetchRefusal, fetchDone, fetchOf}
 use Rattle.cycle.specs.Decode.{decodeRefusal, decodeDone, decodeOf}
 use Rattle.cycle.specs.Operands.{recordOf, operandsRefusal, operandsDone, operandsOf}
-use Rattle.cycle.specs.Helpers.{lateIn, refusedWith, nopRefusal, nopDone, nopOf}
+use Rattle.cycle.specs.Helpers.{lateIn, refusedWith, isStored, writeOf, nopRefusal, nopDone, nopOf}
 use Rattle.cycle.specs.NearCall.{callRefusalIn, nearCallDone, nearCallOf}
-use Rattle.cycle.specs.Ret.{closeRefusalIn, closeDone, closeOf, returnTo, returnOf}
-use Rattle.cycle.specs.Arithmetic.{arithmeticRefusalIn, arithmeticDone, arithmeticOf}
+use Rattle.cycle.specs.Ret.{isOk, closeRefusalIn, closeDone, closeOf, returnTo, returnOf}
+use Rattle.cycle.specs.Arithmetic.{arithmeticRefusalIn, resultIn, arithmeticDone, arithmeticOf}
 use Rattle.cycle.specs.Execute.{sourcesIn, pointerIn, wantIn, executeDone, executeOf, executeStore}
-use Rattle.cycle.specs.Answers.{fetchNumber, decodeNumber, operandsNumber, executeNumber, topRow, topFrame, badPubdata, badReverts, lateWrite, executeChecks}
+use Rattle.cycle.specs.Answers.{fetchNumber, decodeNumber, operandsNumber, executeNumber, locationCase, writeCase, operandsTold, executeTold, queryTells, operandsTells}
+use Rattle.cycle.specs.Answers.{topRow, topFrame, badPubdata, badReverts, lateWrite, executeChecks, writeTells, eventTells, executeTells}
 use Rattle.cycle.proofs.HelperLaws.{or-parts}
 
 -- what is settled by a number has that number
@@ -78,18 +83,39 @@ decode-numbered settings records s store r e = (
       refl,
 )
 
+-- what is settled by a number tells what is done, or nothing
+settled-told : {A : Type 0} (told : A → List (List ℕ)) (n : ℕ) (refused : ℕ → A) (done : A) → told (refused n) ≡ []
+    → told (settled n refused done) ≡ cond (eqb n 0) (told done) []
+settled-told told n refused done r = go (eqb n 0)
+  where
+    go : (z : Bool) → told (cond z done (refused n)) ≡ cond z (told done) []
+    go true = refl
+    go false = r
+
 pub operands-numbered : (settings : Settings) (s : State) (store : List ℕ) (r : Addressed) → r ≡ operandsOf settings s store
-    → (r ≡ operandsOf settings s store) × (operandsNumber (r .answer) ≡ operandsRefusal settings s store)
+    → (r ≡ operandsOf settings s store)
+    × (operandsNumber (r .answer) ≡ operandsRefusal settings s store)
+    × (operandsTold (r .answer) ≡ operandsTells settings s store)
 unfolding operandsOf operandsDone
 operands-numbered settings s store r e = (
   e,
   ap (λ (a : Addressed). operandsNumber (a .answer)) e
-      ∙ settled-number (λ (a : Addressed). operandsNumber (a .answer)) (operandsRefusal settings s store)
-      (λ n. record { state = s; answer = OperandsAnswer.Refused n })
-      (operandsDone 16 s)
-      refl
-      refl,
+      ∙ settled-number (λ (a : Addressed). operandsNumber (a .answer)) (operandsRefusal settings s store) refused (operandsDone 16 s) refl refl,
+  ap (λ (a : Addressed). operandsTold (a .answer)) e
+      ∙ settled-told (λ (a : Addressed). operandsTold (a .answer)) (operandsRefusal settings s store) refused (operandsDone 16 s) refl,
 )
+  where
+    refused : ℕ → Addressed
+    refused n = record { state = s; answer = OperandsAnswer.Refused n }
+
+-- ---- the query for a code read
+pub query-told : (s : State) (r : Location) → r ≡ queryOf s → (r ≡ queryOf s) × (locationCase r ≡ queryTells s)
+unfolding queryOf
+query-told s r e = (e, ap locationCase e ∙ go (codeWanted s) refl)
+  where
+    go : (wanted : Bool) → codeWanted s ≡ wanted → locationCase (queryOf s) ≡ queryTells s
+    go true w = rw w
+    go false w = rw w
 
 -- ---- execute
 -- checks in two parts
@@ -110,8 +136,25 @@ either-order true false = refl
 either-order false true = refl
 either-order false false = refl
 
-number : Executed → ℕ
-number r = executeNumber (r .answer)
+-- an answer with this number, which tells this where the number is 0
+pub record Answers (r : Executed) (n : ℕ) (write event : List ℕ) : Type 0 where
+  pub number : executeNumber (r .answer) ≡ n
+  pub told : executeTold (r .answer) ≡ cond (eqb n 0) (write ∷ event ∷ []) []
+
+settled-answers : (s : State) (n : ℕ) (done : Executed) (write event : List ℕ) → executeNumber (done .answer) ≡ 0 → executeTold (done .answer) ≡ write ∷ event ∷ []
+    → Answers (settled n (refusedWith s) done) n write event
+settled-answers s n done write event d t = record {
+  number = settled-number (λ (r : Executed). executeNumber (r .answer)) n (refusedWith s) done refl d;
+  told = settled-told (λ (r : Executed). executeTold (r .answer)) n (refusedWith s) done refl ∙ ap (λ (l : List (List ℕ)). cond (eqb n 0) l []) t;
+}
+
+-- a refusal
+refused-answers : (s : State) (n : ℕ) (write event : List ℕ) → eqb n 0 ≡ false → Answers (refusedWith s n) n write event
+refused-answers s n write event e = record { number = refl; told = rw e }
+
+-- nothing written, and no event
+abbrev nothing : List ℕ
+nothing = 0 ∷ []
 
 -- a saved row that the store has
 has-row : (limit depth words : ℕ) → (eqb limit 0 || ltb (words / rowWidth) limit || ltb limit depth) ≡ false → (depth ≡ 0 → ⊥) → depth - 1 < words / rowWidth
@@ -146,51 +189,67 @@ module _ (settings : Settings) (word : U256) (pointer : Bool) (s : State) (store
       ∷ ((sum && lateWrite s || lateIn settings s) refuses 14)
       ∷ []
 
-  nop-number : number (nopOf settings s) ≡ firstOf (rest false false false)
-  unfolding number nopOf nopDone
-  nop-number = settled-number number (nopRefusal settings s) (refusedWith s) (nopDone settings s) refl refl
+  nop-answers : Answers (nopOf settings s) (firstOf (rest false false false)) nothing nothing
+  unfolding nopOf nopDone
+  nop-answers = settled-answers s (nopRefusal settings s) (nopDone settings s) nothing nothing refl refl
 
-  sum-number : (a b : U256) → number (arithmeticOf settings a b s) ≡ firstOf (rest false false true)
-  unfolding number arithmeticOf arithmeticDone
-  sum-number a b =
-      settled-number number (arithmeticRefusalIn settings s) (refusedWith s) (arithmeticDone settings a b s) refl refl
-      ∙ ap (λ (late : Bool). cond late 14 0) (either-order (lateIn settings s) (lateWrite s))
+  -- what add and sub write
+  abbrev sumWrite : U256 → U256 → List ℕ
+  sumWrite a b =
+      cond (isStored (s .kept .write)) (locationCase (s .kept .write) ++ ((s .timestamp + 3) ∷ valueOf (resultIn a b s .value) ∷ 0 ∷ [])) nothing
 
-  call-number : (want : ℕ) → number (nearCallOf settings want s) ≡ firstOf (rest false true false)
-  unfolding number nearCallOf nearCallDone
-  call-number want = settled-number number (callRefusalIn settings s) (refusedWith s) (nearCallDone settings want s) refl refl
+  sum-answers : (a b : U256) → Answers (arithmeticOf settings a b s) (firstOf (rest false false true)) (sumWrite a b) nothing
+  unfolding arithmeticOf arithmeticDone
+  sum-answers a b =
+      subst (λ (late : Bool). Answers (arithmeticOf settings a b s) (cond late 14 0) (sumWrite a b) nothing) (either-order (lateIn settings s) (lateWrite s))
+      (settled-answers s (arithmeticRefusalIn settings s) (arithmeticDone settings a b s) (sumWrite a b) nothing refl (ap (λ (l : List ℕ). l ∷ nothing ∷ []) (written (s .kept .write))))
+    where
+      written : (l : Location)
+          → writeCase (writeOf l (s .timestamp) (record { value = resultIn a b s .value; «is_pointer» = false }))
+          ≡ cond (isStored l) (locationCase l ++ ((s .timestamp + 3) ∷ valueOf (resultIn a b s .value) ∷ 0 ∷ [])) nothing
+      written Location.None = refl
+      written (Location.At kind page index) = refl
 
-  close-number : number (closeOf settings (topFrame s store) s) ≡ closeRefusalIn settings (topFrame s store) s
-  unfolding number closeOf closeDone
-  close-number = settled-number number (closeRefusalIn settings (topFrame s store) s) (refusedWith s) (closeDone settings (topFrame s store) s) refl refl
+  call-answers : (want : ℕ) → Answers (nearCallOf settings want s) (firstOf (rest false true false)) nothing (1 ∷ [])
+  unfolding nearCallOf nearCallDone
+  call-answers want = settled-answers s (callRefusalIn settings s) (nearCallDone settings want s) nothing (1 ∷ []) refl refl
+
+  -- what a return tells
+  abbrev closing : List ℕ
+  closing = 2 ∷ boolByte (not (isOk s)) ∷ []
+
+  close-answers : Answers (closeOf settings (topFrame s store) s) (closeRefusalIn settings (topFrame s store) s) nothing closing
+  unfolding closeOf closeDone
+  close-answers =
+      settled-answers s (closeRefusalIn settings (topFrame s store) s) (closeDone settings (topFrame s store) s) nothing closing refl refl
 
   -- by whether the top row is good
-  read-number : ltb (s .depth - 1) (wholeRows store) ≡ true
-      → number (returnTo settings s (readOf 16 store (s .depth - 1)))
-      ≡ cond (not (goodRow 16 (topRow s store))) 8 (closeRefusalIn settings (topFrame s store) s)
-  unfolding number readOf
-  read-number e = rw e (go (goodRow 16 (topRow s store)))
+  read-answers : ltb (s .depth - 1) (wholeRows store) ≡ true
+      → Answers (returnTo settings s (readOf 16 store (s .depth - 1)))
+      (cond (not (goodRow 16 (topRow s store))) 8 (closeRefusalIn settings (topFrame s store) s)) nothing closing
+  unfolding readOf
+  read-answers e = rw e (go (goodRow 16 (topRow s store)))
     where
       go : (good : Bool)
-          → number (returnTo settings s (cond good (ReadAnswer.Good (topFrame s store)) ReadAnswer.NotGood))
-          ≡ cond (not good) 8 (closeRefusalIn settings (topFrame s store) s)
-      go true = close-number
-      go false = refl
+          → Answers (returnTo settings s (cond good (ReadAnswer.Good (topFrame s store)) ReadAnswer.NotGood))
+          (cond (not good) 8 (closeRefusalIn settings (topFrame s store) s)) nothing closing
+      go true = close-answers
+      go false = refused-answers s 8 nothing closing refl
 
-  return-number : badStore settings s store ≡ false → number (returnOf settings s store) ≡ firstOf (rest true false false)
-  unfolding number returnOf
-  return-number sized = go (s .current .«is_local_frame») (eqb (s .depth) 0) refl
+  return-answers : badStore settings s store ≡ false → Answers (returnOf settings s store) (firstOf (rest true false false)) nothing closing
+  unfolding returnOf
+  return-answers sized = go (s .current .«is_local_frame») (eqb (s .depth) 0) refl
     where
       to : Executed
       to = returnTo settings s (readOf 16 store (s .depth - 1))
 
       go : (local ended : Bool) → eqb (s .depth) 0 ≡ ended
-          → number (settled (cond (not local) 7 (cond ended 8 0)) (refusedWith s) to)
-          ≡ cond (not local) 7 (cond (ended || not (goodRow 16 (topRow s store))) 8 (closeRefusalIn settings (topFrame s store) s))
-      go false ended e = refl
-      go true true e = refl
+          → Answers (settled (cond (not local) 7 (cond ended 8 0)) (refusedWith s) to)
+          (cond (not local) 7 (cond (ended || not (goodRow 16 (topRow s store))) 8 (closeRefusalIn settings (topFrame s store) s))) nothing closing
+      go false ended e = refused-answers s 7 nothing closing refl
+      go true true e = refused-answers s 8 nothing closing refl
       go true false e =
-          read-number (lt-ltb (s .depth - 1) (wholeRows store) (has-row (settings .«depth_limit») (s .depth) (length store) sized (eqb-false (s .depth) 0 e)))
+          read-answers (lt-ltb (s .depth - 1) (wholeRows store) (has-row (settings .«depth_limit») (s .depth) (length store) sized (eqb-false (s .depth) 0 e)))
 
   -- the choice of the operation
   sum-tests : (eqb op 1 || eqb op 2) ≡ true → (eqb op 4 ≡ false) × (eqb op 3 ≡ false)
@@ -212,18 +271,26 @@ module _ (settings : Settings) (word : U256) (pointer : Bool) (s : State) (store
   abbrev b : U256
   b = sourcesIn word pointer s .src1 .value
 
+  -- what is told, by the same tests
+  abbrev writes : Bool → List ℕ
+  writes sum = cond (sum && isStored (s .kept .write)) (locationCase (s .kept .write) ++ ((s .timestamp + 3) ∷ valueOf (resultIn a b s .value) ∷ 0 ∷ [])) nothing
+
+  abbrev happens : Bool → Bool → List ℕ
+  happens ret call = cond call (1 ∷ []) (cond ret closing nothing)
+
+  -- what holds of an answer by the tests of an operation's number
+  abbrev ByTests : Executed → ℕ → Type 0
+  ByTests r n = Answers r (firstOf (rest (eqb n 4) (eqb n 3) (eqb n 1 || eqb n 2))) (writes (eqb n 1 || eqb n 2)) (happens (eqb n 4) (eqb n 3))
+
   chosen : badStore settings s store ≡ false → op ≤ 5 → eqb op 5 ≡ false
       → (p q r : Bool) → eqb op 0 ≡ p → (eqb op 1 || eqb op 2) ≡ q → eqb op 3 ≡ r
-      → number (cond p (nopOf settings s) (cond q (arithmeticOf settings a b s) (cond r (nearCallOf settings (wantIn word pointer s) s) (returnOf settings s store))))
-      ≡ firstOf (rest (eqb op 4) (eqb op 3) (eqb op 1 || eqb op 2))
-  chosen sized l e5 true q r e0 e12 e3 =
-      let o = eqb-true op 0 e0 in
-      nop-number ∙ ap (λ (n : ℕ). firstOf (rest (eqb n 4) (eqb n 3) (eqb n 1 || eqb n 2))) (sym o)
-  chosen sized l e5 false true r e0 e12 e3 = rw (sum-tests e12 .0, sum-tests e12 .1, e12) (sum-number a b)
+      → ByTests
+      (cond p (nopOf settings s) (cond q (arithmeticOf settings a b s) (cond r (nearCallOf settings (wantIn word pointer s) s) (returnOf settings s store)))) op
+  chosen sized l e5 true q r e0 e12 e3 = subst (ByTests (nopOf settings s)) (sym (eqb-true op 0 e0)) nop-answers
+  chosen sized l e5 false true r e0 e12 e3 = rw (sum-tests e12 .0, sum-tests e12 .1, e12) (sum-answers a b)
   chosen sized l e5 false false true e0 e12 e3 =
-      let o = eqb-true op 3 e3 in
-      call-number (wantIn word pointer s) ∙ ap (λ (n : ℕ). firstOf (rest (eqb n 4) (eqb n 3) (eqb n 1 || eqb n 2))) (sym o)
-  chosen sized l e5 false false false e0 e12 e3 = rw (four l e0 e12 e3 e5, e3, e12) (return-number sized)
+      subst (ByTests (nearCallOf settings (wantIn word pointer s) s)) (sym (eqb-true op 3 e3)) (call-answers (wantIn word pointer s))
+  chosen sized l e5 false false false e0 e12 e3 = rw (four l e0 e12 e3 e5, e3, e12) (return-answers sized)
 
   small : goodRecord (recordOf s) ≡ true → op ≤ 5
   small g =
@@ -236,24 +303,30 @@ module _ (settings : Settings) (word : U256) (pointer : Bool) (s : State) (store
       left true b c d e f g h i j q = refl
       left false b c d e f g h i j q = q
 
-  execute-number : number (executeOf settings word pointer s store) ≡ firstOf (executeChecks settings word pointer s store)
-  unfolding number executeOf executeDone
-  execute-number =
-      go (eqb (firstOf first) 0) refl
-      ∙ sym (parts first (rest (eqb op 4) (eqb op 3) (eqb op 1 || eqb op 2)) tt)
+  execute-answers : Answers (executeOf settings word pointer s store) (firstOf (executeChecks settings word pointer s store)) (writeTells word pointer s) (eventTells s)
+  unfolding executeOf executeDone
+  execute-answers =
+      subst (λ (n : ℕ). Answers (executeOf settings word pointer s store) n (writeTells word pointer s) (eventTells s))
+      (sym (parts first (rest (eqb op 4) (eqb op 3) (eqb op 1 || eqb op 2)) tt))
+      (go (eqb (firstOf first) 0) refl)
     where
       go : (z : Bool) → eqb (firstOf first) 0 ≡ z
-          → number (cond z (executeDone settings word pointer s store) (refusedWith s (firstOf first)))
-          ≡ cond z (firstOf (rest (eqb op 4) (eqb op 3) (eqb op 1 || eqb op 2))) (firstOf first)
+          → Answers (cond z (executeDone settings word pointer s store) (refusedWith s (firstOf first)))
+          (cond z (firstOf (rest (eqb op 4) (eqb op 3) (eqb op 1 || eqb op 2))) (firstOf first)) (writeTells word pointer s) (eventTells s)
       go true e =
           let c = clear first tt (eqb-true (firstOf first) 0 e) in
           chosen (c .0) (small (not-false (goodRecord (recordOf s)) (c .1 .1 .0))) (c .1 .1 .1 .0) (eqb op 0) (eqb op 1 || eqb op 2) (eqb op 3) refl refl refl
-      go false e = refl
+      go false e = refused-answers s (firstOf first) (writeTells word pointer s) (eventTells s) e
 
   pub execute-numbered : (r : Executed) (after : List ℕ)
       → (r ≡ executeOf settings word pointer s store) × (after ≡ executeStore settings word pointer s store)
       → (r ≡ executeOf settings word pointer s store)
       × (after ≡ executeStore settings word pointer s store)
       × (executeNumber (r .answer) ≡ firstOf (executeChecks settings word pointer s store))
-  unfolding number
-  execute-numbered r after e = (e .0, e .1, ap number (e .0) ∙ execute-number)
+      × (executeTold (r .answer) ≡ executeTells settings word pointer s store)
+  execute-numbered r after e = (
+    e .0,
+    e .1,
+    ap (λ (x : Executed). executeNumber (x .answer)) (e .0) ∙ execute-answers .number,
+    ap (λ (x : Executed). executeTold (x .answer)) (e .0) ∙ execute-answers .told,
+  )

@@ -8,6 +8,7 @@ use borrow.Author.Tests.{eq-eqb, ne-eqb}
 use Rattle.u256.specs.declared.U256.{U256}
 use Rattle.frame.specs.Refusal.{firstOf, _refuses_}
 use Rattle.rules.specs.declared.Settings.{Settings}
+use Rattle.rules.specs.declared.Location.{Location}
 use Rattle.registers.specs.Registers.{emptyWord}
 use Rattle.rules.specs.Code.{superPc, subPc, codeBits}
 use Rattle.rules.specs.Code as code
@@ -15,7 +16,13 @@ use Rattle.cycle.specs.declared.State.{State}
 use Rattle.cycle.specs.declared.Fetched.{Fetched}
 use Rattle.cycle.specs.declared.FetchAnswer.{FetchAnswer}
 use Rattle.cycle.specs.State.{isEnded, badStore}
-use Rattle.cycle.specs.Fetch.{fetchedState, codeAnswer, fetchDone, fetchOf}
+use Rattle.cycle.specs.Fetch.{locationIf, queryOf, fetchedState, codeAnswer, fetchDone, fetchOf}
+
+pub query : (s : State) (super : ℕ) → super ≡ superPc (s .current .pc)
+    → (wanted : Bool) → wanted ≡ code.codeWanted (isEnded s) (s .current .«code_page») (s .«previous_code_memory_page») super (s .«previous_super_pc»)
+    → (r : Location) → r ≡ locationIf wanted (s .current .«code_page») super → r ≡ queryOf s
+unfolding queryOf
+query s super eu wanted ew r er = rw (er, ew, eu)
 
 module _ (settings : Settings) (word : U256) (s : State) (store : List ℕ)
     (sizes : Bool) (ez : sizes ≡ badStore settings s store)

@@ -1,26 +1,35 @@
--- The answers of the stages, case by case: document 01's number of a refusal, 0 where it is none; and all refusals of execute in one list. "Checks run by number."
+-- The answers of the stages, case by case: document 01's number of a refusal, 0 where it is none; what a finished answer tells, in numbers; and all refusals of
+-- execute in one list. "Checks run by number."
 use Prim.Native.Nat.{ℕ, _+_, _-_, _^_}
-use mathlib.Core.Bool.{Bool, not, _&&_, _||_}
-use mathlib.Core.List.{List, [], _∷_}
+use mathlib.Core.Bool.{Bool, not, cond, _&&_, _||_}
+use mathlib.Core.List.{List, [], _∷_, _++_}
 use lib.Dec.{eqb, leb}
+use mir.Val.{boolByte}
 use Rattle.u256.specs.declared.U256.{U256}
+use Rattle.u256.specs.U256.{valueOf}
 use Rattle.frame.specs.declared.Frame.{Frame}
-use Rattle.frame.specs.Refusal.{Check, _refuses_}
+use Rattle.frame.specs.Refusal.{Check, firstOf, _refuses_}
 use Rattle.frame.specs.Row.{frameOf, goodRow}
 use Rattle.frame.specs.Store.{rowAt}
 use Rattle.rules.specs.declared.Settings.{Settings}
+use Rattle.rules.specs.declared.Location.{Location}
 use Rattle.rules.specs.Record.{goodRecord}
+use Rattle.rules.specs.Code.{superPc}
 use Rattle.rules.specs.Ret.{pubdataAfter, counterAfter, isOutside, isBadCounter, ergsPast, isShrunk}
 use Rattle.cycle.specs.declared.State.{State}
+use Rattle.cycle.specs.declared.Write.{Write}
+use Rattle.cycle.specs.declared.Event.{Event}
 use Rattle.cycle.specs.declared.FetchAnswer.{FetchAnswer}
 use Rattle.cycle.specs.declared.DecodeAnswer.{DecodeAnswer}
 use Rattle.cycle.specs.declared.OperandsAnswer.{OperandsAnswer}
 use Rattle.cycle.specs.declared.ExecuteAnswer.{ExecuteAnswer}
 use Rattle.cycle.specs.State.{addressed, badStore, outOfTurn, isEnded}
-use Rattle.cycle.specs.Operands.{recordOf}
+use Rattle.cycle.specs.Fetch.{codeWanted}
+use Rattle.cycle.specs.Operands.{recordOf, placesIn, operandsRefusal}
 use Rattle.cycle.specs.Helpers.{lateIn, isStored}
+use Rattle.cycle.specs.Arithmetic.{resultIn}
 use Rattle.cycle.specs.Ret.{isOk}
-use Rattle.cycle.specs.Execute.{pointerIn}
+use Rattle.cycle.specs.Execute.{sourcesIn, pointerIn}
 
 -- fetch: "64 bits of code, or exception (pending), or nop (ended)"
 abbrev pub fetchNumber : FetchAnswer → ℕ
@@ -43,6 +52,40 @@ operandsNumber (OperandsAnswer.Refused n) = n
 abbrev pub executeNumber : ExecuteAnswer → ℕ
 executeNumber (ExecuteAnswer.Done write event) = 0
 executeNumber (ExecuteAnswer.Refused n) = n
+
+-- ---- what is told, by case: the number of the case, then its values
+-- "either no location or a memory kind, page and index": 0 where there is none, else the memory kind, 1 for the stack and 2 for code
+abbrev pub locationCase : Location → List ℕ
+locationCase Location.None = 0 ∷ []
+locationCase (Location.At kind page index) = kind ∷ page ∷ index ∷ []
+
+-- "A write carries time plus 3": 0 where nothing is written, else the memory kind; page, index, time, the value and its pointer bit
+abbrev pub writeCase : Write → List ℕ
+writeCase Write.None = 0 ∷ []
+writeCase (Write.At kind page index time written) = kind ∷ page ∷ index ∷ time ∷ valueOf (written .value) ∷ boolByte (written .«is_pointer») ∷ []
+
+-- "Events: frame opened, frame closed with its panicked bit": 1 and 2, 0 where there is none
+abbrev pub eventCase : Event → List ℕ
+eventCase Event.None = 0 ∷ []
+eventCase Event.Opened = 1 ∷ []
+eventCase (Event.Closed panicked) = 2 ∷ boolByte panicked ∷ []
+
+-- of operands the source and the destination, of execute the write and the event; a refusal tells nothing but its number
+abbrev pub operandsTold : OperandsAnswer → List (List ℕ)
+operandsTold (OperandsAnswer.Done source destination) = locationCase source ∷ locationCase destination ∷ []
+operandsTold (OperandsAnswer.Refused n) = []
+
+abbrev pub executeTold : ExecuteAnswer → List (List ℕ)
+executeTold (ExecuteAnswer.Done write event) = writeCase write ∷ eventCase event ∷ []
+executeTold (ExecuteAnswer.Refused n) = []
+
+-- what the query for a code read is to tell: memory kind 2, "from which page and index"
+abbrev pub queryTells : State → List ℕ
+queryTells s = cond (codeWanted s) (2 ∷ s .current .«code_page» ∷ superPc (s .current .pc) ∷ []) (0 ∷ [])
+
+abbrev pub operandsTells : Settings → State → List ℕ → List (List ℕ)
+operandsTells settings s store =
+    cond (eqb (operandsRefusal settings s store) 0) (locationCase (placesIn 16 s .source) ∷ locationCase (placesIn 16 s .destination) ∷ []) []
 
 -- ---- the refusals of execute
 -- operations 1 add and 2 sub, 3 near call, 4 return
@@ -91,3 +134,20 @@ executeChecks settings word pointer s store =
     ∷ ((isReturn s && isShrunk (topFrame s store) (s .current)) refuses 13)
     ∷ ((isArithmetic s && lateWrite s || lateIn settings s) refuses 14)
     ∷ []
+
+-- ---- what execute is to tell
+-- add and sub write their result where a location is kept, with the pointer bit off
+abbrev pub writeTells : U256 → Bool → State → List ℕ
+writeTells word pointer s =
+    cond (isArithmetic s && isStored (s .kept .write))
+    (locationCase (s .kept .write)
+    ++ ((s .timestamp + 3) ∷ valueOf (resultIn (sourcesIn word pointer s .src0 .value) (sourcesIn word pointer s .src1 .value) s .value) ∷ 0 ∷ []))
+    (0 ∷ [])
+
+-- a near call opens a frame, a return closes one; revert and panic count as panicked
+abbrev pub eventTells : State → List ℕ
+eventTells s = cond (isNearCall s) (1 ∷ []) (cond (isReturn s) (2 ∷ boolByte (not (isOk s)) ∷ []) (0 ∷ []))
+
+abbrev pub executeTells : Settings → U256 → Bool → State → List ℕ → List (List ℕ)
+executeTells settings word pointer s store =
+    cond (eqb (firstOf (executeChecks settings word pointer s store)) 0) (writeTells word pointer s ∷ eventTells s ∷ []) []

@@ -2,7 +2,7 @@
 ghost use mathlib.Core.Path.{_≡_};
 ghost use Rattle.frame.specs.Refusal.{firstOf};
 ghost use Rattle.cycle.specs.Execute.{executeRefusal, executeOf, executeStore};
-ghost use Rattle.cycle.specs.Answers.{executeNumber, executeChecks};
+ghost use Rattle.cycle.specs.Answers.{executeNumber, executeChecks, executeTold, executeTells};
 use crate::Executed;
 use crate::State;
 use rules::Settings;
@@ -41,7 +41,8 @@ impl State {
     ) -> Executed
         ensures { λ r. ⌜ (r ≡ executeOf settings word pointer self (now (store .entry)))
             × (now (store .exit) ≡ executeStore settings word pointer self (now (store .entry)))
-            × (executeNumber (r .answer) ≡ firstOf (executeChecks settings word pointer self (now (store .entry)))) ⌝ }
+            × (executeNumber (r .answer) ≡ firstOf (executeChecks settings word pointer self (now (store .entry))))
+            × (executeTold (r .answer) ≡ executeTells settings word pointer self (now (store .entry))) ⌝ }
     {
         let kept = self.kept;
         let instruction = kept.instruction;

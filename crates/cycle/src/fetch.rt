@@ -1,7 +1,7 @@
 // The code query and fetch, from the Rust's `cycle.rs`.
 ghost use mathlib.Core.Path.{_≡_};
 ghost use Rattle.cycle.specs.Fetch.{queryOf, locationIf, fetchedState, codeAnswer, fetchRefusal, fetchOf};
-ghost use Rattle.cycle.specs.Answers.{fetchNumber};
+ghost use Rattle.cycle.specs.Answers.{fetchNumber, locationCase, queryTells};
 use crate::FetchAnswer;
 use crate::Fetched;
 use crate::State;
@@ -49,7 +49,7 @@ impl State {
 
     // Whether a code read is wanted, and from where.
     pub fn code_query(self) -> Location
-        ensures { λ r. ⌜ r ≡ queryOf self ⌝ }
+        ensures { λ r. ⌜ (r ≡ queryOf self) × (locationCase r ≡ queryTells self) ⌝ }
     {
         let super_pc = fetch::super_pc(self.current.pc);
         let page = self.current.code_page;

@@ -1,46 +1,17 @@
 -- One line's cycle: from what its parts give to what it gives. Assumes nothing.
 use Prim.Native.Nat.{ℕ}
-use mathlib.Core.Bool.{Bool, true, false, cond}
-use mathlib.Core.Path.{_≡_, refl, sym, ap, _∙_}
+use mathlib.Core.Path.{_≡_, refl}
 use mathlib.Core.List.{List}
-use lib.Dec.{eqb}
-use borrow.Author.Tests.{eq-eqb, ne-eqb, eqb-true}
+use borrow.Author.Tests.{eq-eqb, ne-eqb}
 use Rattle.cycle.specs.declared.State.{State}
 use Rattle.stepper.specs.declared.Input.{Input}
 use Rattle.stepper.specs.declared.Cycled.{Cycled}
 use Rattle.stepper.specs.Cycle.{cycleOf, cycleStore, cycleNumber, cycleCharge}
-use Rattle.tally.specs.declared.EnterAnswer.{EnterAnswer}
-use Rattle.tally.specs.Tally.{enterRefusal, enterOf, tallyAfter}
+use Rattle.tally.specs.Tally.{enterRefusal, tallyAfter}
 use Rattle.table.specs.declared.Op.{Op}
 use Rattle.runs.specs.declared.Ran.{Ran}
 use Rattle.runs.specs.Run.{Run, inputOf, requestedState, ranOf, storeAfter, entriesAfter}
 
--- ---- the number of an entry's answer
-numberOf : EnterAnswer → ℕ
-numberOf EnterAnswer.Entered = 0
-numberOf (EnterAnswer.Refused n) = n
-
-answer-number : (n : ℕ) (b : Bool) → eqb n 0 ≡ b → numberOf (cond b EnterAnswer.Entered (EnterAnswer.Refused n)) ≡ n
-unfolding numberOf
-answer-number n true e = sym (eqb-true n 0 e)
-answer-number n false e = refl
-
-number : (r : EnterAnswer) (tally : List ℕ) (limit before after charge : ℕ) → r ≡ enterOf tally limit before after charge
-    → numberOf r ≡ enterRefusal tally limit before after charge
-unfolding enterOf
-number r tally limit before after charge e = ap numberOf e ∙ answer-number (enterRefusal tally limit before after charge) _ refl
-
-pub entered : (tally : List ℕ) (limit before after charge : ℕ) {r : EnterAnswer} → r ≡ enterOf tally limit before after charge → r ≡ EnterAnswer.Entered
-    → 0 ≡ enterRefusal tally limit before after charge
-unfolding numberOf
-entered tally limit before after charge e k = sym (ap numberOf k) ∙ number _ tally limit before after charge e
-
-pub not-entered : (tally : List ℕ) (limit before after charge : ℕ) {r : EnterAnswer} {n : ℕ} → r ≡ enterOf tally limit before after charge → r ≡ EnterAnswer.Refused n
-    → n ≡ enterRefusal tally limit before after charge
-unfolding numberOf
-not-entered tally limit before after charge e k = sym (ap numberOf k) ∙ number _ tally limit before after charge e
-
--- ---- the cycle and its entry
 abbrev runWith : State → List ℕ → List ℕ → Run
 runWith s store tally = record { state = s; store = store; tally = tally }
 

@@ -73,8 +73,8 @@ abbrev pub cycleIn : ℕ → Op → ℕ → ℕ → Run → Cycled
 cycleIn limit op price want b = cycleOf (inputOf limit op price) (requestedState (b .state) want) (b .store)
 
 -- the tally's refusal for a finished cycle, or 0
-abbrev pub enterNumber : ℕ → ℕ → List ℕ → Cycled → ℕ
-enterNumber limit before tally c = enterRefusal tally limit before (c .state .depth) (cycleCharge (c .answer))
+abbrev pub entryRefusal : ℕ → ℕ → List ℕ → Cycled → ℕ
+entryRefusal limit before tally c = enterRefusal tally limit before (c .state .depth) (cycleCharge (c .answer))
 
 -- what a line's cycle gives: the refusal of the cycle or of its entry, 0 where there is none
 unfoldable pub ranOf : ℕ → Op → ℕ → ℕ → Run → Ran
@@ -82,7 +82,7 @@ ranOf limit op price want b = record {
   state = cycleIn limit op price want b .state;
   number =
       cond (eqb (cycleNumber (cycleIn limit op price want b .answer)) 0)
-      (enterNumber limit (b .state .depth) (b .tally) (cycleIn limit op price want b))
+      (entryRefusal limit (b .state .depth) (b .tally) (cycleIn limit op price want b))
       (cycleNumber (cycleIn limit op price want b .answer));
   charge = cycleCharge (cycleIn limit op price want b .answer);
 }

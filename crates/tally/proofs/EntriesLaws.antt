@@ -9,7 +9,7 @@ use lib.ListN.{length, getD, set, length-set}
 use lib.Seq.{getD-set-same, getD-set-other}
 use borrow.Author.Tests.{eqb-true, eqb-false}
 use Rattle.tally.specs.Tally.{spent, badEntry, enterRefusal, charged, entered, tallyAfter}
-use Rattle.tally.specs.Entries.{Entry, afterEntries, takenOf, opensAt, isOpened, sinceOpening, spendOf, PlaceHoldsSpend}
+use Rattle.tally.specs.Entries.{Entry, tallyAfterEntries, takenOf, opensAt, isOpened, sinceOpening, spendOf, PlaceHoldsSpend}
 use Rattle.tally.proofs.TallyLaws.{or-parts, in-tally}
 
 -- with no opening among them, all entries are since the last one
@@ -83,12 +83,12 @@ module _ (tally : List ℕ) (e : Entry) (depth : ℕ) where
       go false false l n = rw (place t, l, n, unopened depth es l) (omega arith)
 
 pub place-holds-spend : PlaceHoldsSpend
-unfolding afterEntries takenOf tallyAfter
+unfolding tallyAfterEntries takenOf tallyAfter
 place-holds-spend tally [] depth = omega arith
 place-holds-spend tally (e ∷ es) depth = go (eqb (refusal tally e depth) 0) refl (λ t. place-holds-spend t es depth)
   where
     go : (taken : Bool) → eqb (refusal tally e depth) 0 ≡ taken
-        → ((t : List ℕ) → getD (afterEntries t es) depth 0 ≡ held depth (getD t depth 0) (takenOf t es))
-        → getD (afterEntries tally (e ∷ es)) depth 0 ≡ held depth (getD tally depth 0) (takenOf tally (e ∷ es))
+        → ((t : List ℕ) → getD (tallyAfterEntries t es) depth 0 ≡ held depth (getD t depth 0) (takenOf t es))
+        → getD (tallyAfterEntries tally (e ∷ es)) depth 0 ≡ held depth (getD tally depth 0) (takenOf tally (e ∷ es))
     go true t rest = rw t (rest (after tally e depth) ∙ first tally e depth (takenOf (after tally e depth) es) t)
     go false t rest = rw t (rest tally)

@@ -15,20 +15,20 @@ pub record Entry : Type 0 where
   pub charge : ℕ
 
 -- ---- entries made one after the other
-abbrev pub afterEntry : List ℕ → Entry → List ℕ
-afterEntry tally e = tallyAfter tally (e .limit) (e .before) (e .after) (e .charge)
+abbrev pub tallyAfterEntry : List ℕ → Entry → List ℕ
+tallyAfterEntry tally e = tallyAfter tally (e .limit) (e .before) (e .after) (e .charge)
 
-unfoldable pub afterEntries : List ℕ → List Entry → List ℕ
-afterEntries tally [] = tally
-afterEntries tally (e ∷ es) = afterEntries (afterEntry tally e) es
+unfoldable pub tallyAfterEntries : List ℕ → List Entry → List ℕ
+tallyAfterEntries tally [] = tally
+tallyAfterEntries tally (e ∷ es) = tallyAfterEntries (tallyAfterEntry tally e) es
 
 -- those that are not refused
 unfoldable pub takenOf : List ℕ → List Entry → List Entry
 takenOf tally [] = []
 takenOf tally (e ∷ es) =
     cond (eqb (enterRefusal tally (e .limit) (e .before) (e .after) (e .charge)) 0)
-    (e ∷ takenOf (afterEntry tally e) es)
-    (takenOf (afterEntry tally e) es)
+    (e ∷ takenOf (tallyAfterEntry tally e) es)
+    (takenOf (tallyAfterEntry tally e) es)
 
 -- ---- the frame of a depth
 -- an entry opens the frame of its depth after where that is above its depth before
@@ -54,5 +54,5 @@ spendOf depth (e ∷ es) = cond (eqb (e .before) depth) (e .charge) 0 + spendOf 
 abbrev pub PlaceHoldsSpend : Type 0
 PlaceHoldsSpend =
     (tally : List ℕ) (entries : List Entry) (depth : ℕ)
-    → getD (afterEntries tally entries) depth 0
+    → getD (tallyAfterEntries tally entries) depth 0
     ≡ cond (isOpened depth (takenOf tally entries)) 0 (getD tally depth 0) + spendOf depth (sinceOpening depth (takenOf tally entries))

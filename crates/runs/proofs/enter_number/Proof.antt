@@ -1,5 +1,6 @@
-use Rattle.runs.proofs.RunLaws as laws
+use mathlib.Core.Path.{sym, ap, _∙_}
 use borrow.Author.Needs.{needs}
+use Rattle.tally.specs.Tally.{enterNumber}
 use Rattle.runs.proofs.enter_number.Statement.{statement}
 use Rattle.runs.proofs.enter_number.Tie as tie
 
@@ -16,13 +17,13 @@ same-length : tie.Need-same-length
 same-length c = search needs
 
 returns : tie.Need-returns
-returns c = let a = c .before .before .before .before .before .before .before .args in let e = c .before .before .before .before .enter .ensures in (laws.entered (a .tally .now) (a .limit) (a .before) (a .after) (a .charge) (e .0) (c .enum-told .given .1), e .1)
+returns c = let e = c .before .before .before .before .enter .ensures in (sym (ap enterNumber (c .enum-told .given .1)) ∙ e .2, e .1)
 
 same-length-2 : tie.Need-same-length-2
 same-length-2 c = search needs
 
 returns-2 : tie.Need-returns-2
-returns-2 c = let a = c .before .before .before .before .before .before .before .before .args in let e = c .before .before .before .before .before .enter .ensures in (laws.not-entered (a .tally .now) (a .limit) (a .before) (a .after) (a .charge) (e .0) (c .before .answer .given .1), e .1)
+returns-2 c = let e = c .before .before .before .before .before .enter .ensures in (sym (ap enterNumber (c .before .answer .given .1)) ∙ e .2, e .1)
 
 pub enter-number-spec : {M : Type 1} → statement M
 enter-number-spec =

@@ -106,7 +106,7 @@ returns-5 c =
     let p20 = p18 .before .before in
     let p22 = p20 .before .before in
     let p28 = p22 .before .before .before .before .before .before in
-    laws.done (p28 .args .input) (p28 .args .state) (p28 .args .store .now) _ (p20 .fetch .ensures .0) _ (p18 .fetch-number .ensures) (p17 .if1 .left) _ (p15 .decode .ensures .0) _ (p13 .decode-number .ensures) (p12 .if2 .left) _ (p10 .operands .ensures .0) _ (p8 .operands-number .ensures) (p7 .if3 .left) _ _ (p5 .execute .ensures .0, p5 .execute .ensures .1) _ (p1 .execute-number .ensures) (c .if4 .left) _ (p22 .code-query .ensures)
+    laws.done (p28 .args .input) (p28 .args .state) (p28 .args .store .now) _ (p20 .fetch .ensures .0) _ (p18 .fetch-number .ensures) (p17 .if1 .left) _ (p15 .decode .ensures .0) _ (p13 .decode-number .ensures) (p12 .if2 .left) _ (p10 .operands .ensures .0) _ (p8 .operands-number .ensures) (p7 .if3 .left) _ _ (p5 .execute .ensures .0, p5 .execute .ensures .1) _ (p1 .execute-number .ensures) (c .if4 .left) _ (p22 .code-query .ensures .0)
 
 pub cycle-spec : {M : Type 1} → statement M
 cycle-spec =

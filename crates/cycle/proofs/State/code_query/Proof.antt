@@ -1,5 +1,6 @@
 use borrow.Author.Needs.{needs}
-use Rattle.cycle.specs.Fetch.{queryOf}
+use Rattle.cycle.proofs.FetchLaws as laws
+use Rattle.cycle.proofs.AnswerLaws as answers
 use Rattle.cycle.proofs.State.code_query.Statement.{statement}
 use Rattle.cycle.proofs.State.code_query.Tie as tie
 
@@ -13,8 +14,9 @@ query-of-requires : tie.Need-query-of-requires
 query-of-requires c κs = search needs
 
 returns : tie.Need-returns
-unfolding queryOf
-returns c = cc
+returns c =
+    let p = c .before .before .before in
+    answers.query-told _ _ (laws.query (p .before .args .self) _ (p .super-pc .ensures) _ (c .before .code-wanted .ensures) _ (c .query-of .ensures))
 
 pub code-query-spec : {M : Type 1} → statement M
 code-query-spec =
