@@ -10,6 +10,14 @@ natural c = laws.sub-down _ _ (c .before .fits .a) (c .before .fits .b) (c .if1 
 negative : (c : tie.Else1) → laws.TopTest _+ℤ_ _-ℤ_ (c .before .args .a) (c .before .args .b)
 negative c = laws.sub-up _ _ (c .before .fits .a) (c .before .fits .b) (c .if1 .left)
 
+-- what is refused: only the very ends will do
+returns-2 : tie.Need-returns-2
+returns-2 c = laws.outside (natural (c .before)) (c .if2 .left)
+
+returns-4 : tie.Need-returns-4
+returns-4 c = laws.outside (negative (c .before)) (c .if3 .left)
+
+-- what is answered
 add-if2 : tie.Need-add-if2
 add-if2 c = natural c .room-fits
 
@@ -25,14 +33,8 @@ sub-t12 c = laws.fits (negative (c .before)) (c .if3 .taken)
 returns : tie.Need-returns
 returns c = laws.said (natural (c .before)) (c .if2 .taken)
 
-returns-2 : tie.Need-returns-2
-returns-2 c = laws.outside (natural (c .before)) (c .if2 .left)
-
 returns-3 : tie.Need-returns-3
 returns-3 c = laws.said (negative (c .before)) (c .if3 .taken)
-
-returns-4 : tie.Need-returns-4
-returns-4 c = laws.outside (negative (c .before)) (c .if3 .left)
 
 pub checked-sub-spec : {M : Type 1} → statement M
 checked-sub-spec =

@@ -1,3 +1,4 @@
+use native.Mathlib.Omega.{arith}
 use borrow.Author.Needs.{needs}
 use Rattle.cycle.proofs.RetLaws as laws
 use Rattle.cycle.proofs.State.close.Statement.{statement}
@@ -27,7 +28,7 @@ sum-requires c κs =
     let p2 = p1 .before in
     let p9 = p2 .before .before .before .before .before .before .before in
     let a = p9 .args in
-    laws.close-ergs (a .settings) (a .caller) (a .self) _ (p2 .is-late .ensures) _ (p1 .close-refusal .ensures) (c .if1 .left)
+    omega (arith, laws.close-ergs (a .settings) (a .caller) (a .self) _ (p2 .is-late .ensures) _ (p1 .close-refusal .ensures) (c .if1 .left))
 
 resumed-frame-requires : tie.Need-resumed-frame-requires
 resumed-frame-requires c κs = search needs

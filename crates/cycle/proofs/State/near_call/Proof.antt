@@ -1,3 +1,4 @@
+use native.Mathlib.Omega.{arith}
 use borrow.Author.Needs.{needs}
 use Rattle.cycle.proofs.NearCallLaws as laws
 use Rattle.cycle.proofs.State.near_call.Statement.{statement}
@@ -58,7 +59,7 @@ sum-requires c κs =
     let p15 = p14 .before in
     let p20 = p15 .before .before .before .before .before in
     let a = p20 .args in
-    laws.deeper (a .settings) (a .want) (a .self) (a .store .now) _ (p15 .is-late .ensures) _ (p14 .call-refusal .ensures) (p13 .if1 .left) (p20 .pre) (search needs)
+    omega (arith, laws.deeper (a .settings) (a .want) (a .self) (a .store .now) _ (p15 .is-late .ensures) _ (p14 .call-refusal .ensures) (p13 .if1 .left) (p20 .pre) (search needs))
 
 no-flags-requires : tie.Need-no-flags-requires
 no-flags-requires c κs = search needs
