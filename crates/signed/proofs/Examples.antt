@@ -18,3 +18,8 @@ sum-bottom = (refl, refl)
 pub difference-top : (differenceOf (negsuc 0) (negsuc 2147483647) ≡ Fits (pos 2147483647)) × (differenceOf (pos 0) (negsuc 2147483647) ≡ Outside)
 unfolding checkedOf
 difference-top = (refl, refl)
+
+-- -2,147,483,648 - 0 and -2,147,483,648 - 1
+pub difference-bottom : (differenceOf (negsuc 2147483647) (pos 0) ≡ Fits (negsuc 2147483647)) × (differenceOf (negsuc 2147483647) (pos 1) ≡ Outside)
+unfolding checkedOf
+difference-bottom = (refl, refl)
