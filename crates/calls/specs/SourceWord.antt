@@ -1,4 +1,5 @@
--- When the word that execute is given counts. Document 01: execute "takes the word read and its pointer bit, looked at only where a source location was given".
+-- When the words that execute and fetch are given count. Document 01: execute "takes the word read and its pointer bit, looked at only where a source location was
+-- given".
 use Prim.Native.Nat.{ℕ}
 use mathlib.Core.Bool.{Bool}
 use mathlib.Core.Path.{_≡_}
