@@ -4,14 +4,15 @@
 use crate::case::*;
 use crate::convert::*;
 use crate::machine::{machine, Machine};
-use crate::oracle::{Answer, Oracle, Outcome, BUILT_WITH};
-use crate::places::{self, Refusal};
+use crate::oracle::{Answer, Oracle, Outcome, Ran, BUILT_WITH};
+use crate::places::{self, Place, Refusal};
 use zk_evm::opcodes::DecodedOpcode;
-use zk_evm::vm_state::PreState;
+use zk_evm::vm_state::{MemOpsProcessor, PreState};
 use zkevm_opcode_defs::decoding::encoding_mode_production::Encoding;
 use zkevm_opcode_defs::decoding::{EncodingModeProduction, VmEncodingMode};
 use zkevm_opcode_defs::ethereum_types::U256;
 use zkevm_opcode_defs::instruction::{self, InstructionRecord, InstructionRecords};
+use zkevm_opcode_defs::Operand;
 
 pub fn run(oracle: &Oracle, case: &Case) -> Answer {
     let plain = &case.records.plain;
@@ -22,6 +23,82 @@ pub fn run(oracle: &Oracle, case: &Case) -> Answer {
     Answer {
         outcome,
         kept: to_instruction(plain).map(|_| Choice::Plain),
+    }
+}
+
+/// The same on a case of any kind that can be stated. The registers are read by the Rust; a source in memory, the swap and what becomes of a
+/// misplaced pointer's bit are written out here as `cycle` has them.
+pub fn run_anyway(oracle: &Oracle, case: &Case) -> Result<Ran, Unstated> {
+    let Case { state, records, .. } = case;
+    let opcode = to_opcode(state_instruction(&records.plain)?);
+    let (outcome, left_out) = match read_registers(oracle, case) {
+        Ok(registers) => {
+            let mut sources = chosen_sources(case, registers);
+            let is_misplaced = misplaced(case, sources);
+            sources[0].is_pointer &= !is_misplaced[0];
+            sources[1].is_pointer &= !is_misplaced[1];
+            let outcome = apply(oracle, case, opcode, prestate(state, sources[0], sources[1]));
+            (outcome, left_out(case, is_misplaced != [false; 2]))
+        }
+        Err(place) => (Outcome::Panicked(place), None),
+    };
+    Ok(Ran {
+        outcome,
+        kept: Some(Choice::Plain),
+        left_out,
+    })
+}
+
+/// src0 and src1 by the Rust's own reading.
+fn read_registers(oracle: &Oracle, case: &Case) -> Result<[Register; 2], Place> {
+    let plain = &case.records.plain;
+    let machine = machine(to_local_state(&case.state), U256(case.code_word), to_primitive(case.source));
+    let mut processor = MemOpsProcessor { sp: 0 };
+    oracle.catch(|| {
+        [plain.src0, plain.src1].map(|number| {
+            let (value, _) = processor.compute_addresses_and_select_operands(&machine, number, 0, Operand::RegOnly, false);
+            from_primitive(value)
+        })
+    })
+}
+
+/// What the operation is handed of these two registers, after the swap.
+fn chosen_sources(case: &Case, [src0, src1]: [Register; 2]) -> [Register; 2] {
+    let plain = &case.records.plain;
+    let src0 = match plain.source_kind {
+        kind::REGISTER => src0,
+        kind::IMMEDIATE => immediate(plain),
+        _ if plain.is_nop() => Register::default(),
+        _ => case.source,
+    };
+    if plain.swap {
+        [src1, src0]
+    } else {
+        [src0, src1]
+    }
+}
+
+/// Which of the two sources is a pointer that may not be one.
+fn misplaced(case: &Case, [src0, src1]: [Register; 2]) -> [bool; 2] {
+    let plain = &case.records.plain;
+    let is_kernel = case.state.current.is_kernel();
+    [
+        src0.is_pointer && !plain.src0_may_be_pointer && !is_kernel,
+        src1.is_pointer && !plain.src1_may_be_pointer && !is_kernel,
+    ]
+}
+
+/// Which of refusals 5 to 7 holds, if any.
+fn left_out(case: &Case, is_misplaced: bool) -> Option<u32> {
+    let operation = case.records.plain.operation;
+    if operation == operation::OTHER {
+        Some(5)
+    } else if is_misplaced {
+        Some(6)
+    } else if operation == operation::RETURN && case.state.current.0[place::LOCAL] == 0 {
+        Some(7)
+    } else {
+        None
     }
 }
 
@@ -48,8 +125,7 @@ fn check_domain(case: &Case) -> Result<(InstructionRecord, PreState), Option<u32
         return Err(Some(5));
     }
     let [src0, src1] = sources(state, plain).ok_or(None)?;
-    let is_misplaced = src0.is_pointer && !plain.src0_may_be_pointer || src1.is_pointer && !plain.src1_may_be_pointer;
-    if is_misplaced && !state.current.is_kernel() {
+    if misplaced(case, [src0, src1]) != [false; 2] {
         return Err(Some(6));
     }
     if plain.operation == operation::RETURN {
@@ -76,13 +152,17 @@ fn check_frames(state: &State) -> Result<(), u32> {
 fn sources(state: &State, record: &Record) -> Option<[Register; 2]> {
     let src0 = match record.source_kind {
         kind::REGISTER => state.register(record.src0),
-        kind::IMMEDIATE => Register {
-            value: [record.imm_0.into(), 0, 0, 0],
-            is_pointer: false,
-        },
+        kind::IMMEDIATE => immediate(record),
         _ => return None,
     };
     (!record.swap).then(|| [src0, state.register(record.src1)])
+}
+
+fn immediate(record: &Record) -> Register {
+    Register {
+        value: [record.imm_0.into(), 0, 0, 0],
+        is_pointer: false,
+    }
 }
 
 /// As `cycle` makes it.

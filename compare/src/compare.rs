@@ -182,7 +182,7 @@ fn difference(number: u64, case: &Case, outcome: &Outcome, replay: String) -> Op
     })
 }
 
-fn differing_fields(names: &[String], rust: &str, replay: &str) -> Vec<String> {
+pub fn differing_fields(names: &[String], rust: &str, replay: &str) -> Vec<String> {
     let (rust, replay): (Vec<_>, Vec<_>) = (rust.split(' ').collect(), replay.split(' ').collect());
     if rust.len() != replay.len() {
         return vec![format!("{} fields against {}", rust.len(), replay.len())];

@@ -152,21 +152,28 @@ pub fn from_location(location: MemoryLocation) -> Location {
     }
 }
 
-fn to_opcode(record: &Record) -> Option<Opcode> {
-    let kind = match record.return_kind {
-        return_kind::OK => RetOpcode::Ok,
-        return_kind::REVERT => RetOpcode::Revert,
-        return_kind::PANIC => RetOpcode::Panic,
-        _ => return None,
-    };
-    Some(match record.operation {
+/// What the Rust's types cannot state: an enum has no such variant.
+pub type Unstated = &'static str;
+
+fn to_return_kind(number: u8) -> Result<RetOpcode, Unstated> {
+    match number {
+        return_kind::OK => Ok(RetOpcode::Ok),
+        return_kind::REVERT => Ok(RetOpcode::Revert),
+        return_kind::PANIC => Ok(RetOpcode::Panic),
+        _ => Err("a return of a kind above 2"),
+    }
+}
+
+/// Only a return has a kind in the Rust.
+fn to_opcode(record: &Record) -> Result<Opcode, Unstated> {
+    Ok(match record.operation {
         operation::NOP => Opcode::Nop(NopOpcode),
         operation::ADD => Opcode::Add(()),
         operation::SUB => Opcode::Sub(()),
         operation::NEAR_CALL => Opcode::NearCall(()),
-        operation::RETURN => Opcode::Ret(kind),
+        operation::RETURN => Opcode::Ret(to_return_kind(record.return_kind)?),
         operation::OTHER => Opcode::Mul(()),
-        _ => return None,
+        _ => return Err("an operation above 5"),
     })
 }
 
@@ -181,7 +188,7 @@ pub fn operation_of(opcode: Opcode) -> u8 {
     }
 }
 
-fn to_condition(number: u8) -> Option<Condition> {
+fn to_condition(number: u8) -> Result<Condition, Unstated> {
     const CONDITIONS: [Condition; 8] = [
         Condition::Always,
         Condition::Gt,
@@ -192,35 +199,29 @@ fn to_condition(number: u8) -> Option<Condition> {
         Condition::Ne,
         Condition::GtOrLt,
     ];
-    CONDITIONS.get(usize::from(number)).copied()
+    CONDITIONS.get(usize::from(number)).copied().ok_or("a condition above 7")
 }
 
 /// The Rust has several operand types for a register or an immediate; near call and return have the narrow ones.
-fn to_operand(number: u8, operation: u8) -> Option<Operand> {
+fn to_operand(number: u8, operation: u8) -> Result<Operand, Unstated> {
     let is_narrow = matches!(operation, operation::NEAR_CALL | operation::RETURN);
     let flags = match number {
-        kind::REGISTER if is_narrow => return Some(Operand::RegOnly),
-        kind::IMMEDIATE if is_narrow => return Some(Operand::RegOrImm(RegOrImmFlags::UseImm16Only)),
+        kind::REGISTER if is_narrow => return Ok(Operand::RegOnly),
+        kind::IMMEDIATE if is_narrow => return Ok(Operand::RegOrImm(RegOrImmFlags::UseImm16Only)),
         kind::REGISTER => ImmMemHandlerFlags::UseRegOnly,
         kind::IMMEDIATE => ImmMemHandlerFlags::UseImm16Only,
         kind::PUSH_POP => ImmMemHandlerFlags::UseStackWithPushPop,
         kind::STACK_OFFSET => ImmMemHandlerFlags::UseStackWithOffset,
         kind::CODE_PAGE => ImmMemHandlerFlags::UseCodePage,
         kind::ABSOLUTE_STACK => ImmMemHandlerFlags::UseAbsoluteOnStack,
-        _ => return None,
+        _ => return Err("a source or destination kind above 5"),
     };
-    Some(Operand::Full(flags))
+    Ok(Operand::Full(flags))
 }
 
-/// `None` where a field is outside its list, a register above 15, or a destination an immediate or on the code page.
-pub fn to_instruction(record: &Record) -> Option<InstructionRecord> {
-    let is_register = |number: u8| usize::from(number) <= REGISTERS;
-    let are_registers = [record.src0, record.src1, record.dst0].into_iter().all(is_register);
-    let is_destination = !matches!(record.destination_kind, kind::IMMEDIATE | kind::CODE_PAGE);
-    if !are_registers || !is_destination {
-        return None;
-    }
-    Some(InstructionRecord {
+/// The Rust's record, good or not, as far as its types can state it.
+pub fn state_instruction(record: &Record) -> Result<InstructionRecord, Unstated> {
+    Ok(InstructionRecord {
         opcode: to_opcode(record)?,
         condition: to_condition(record.condition)?,
         src0_operand_type: to_operand(record.source_kind, record.operation)?,
@@ -242,10 +243,31 @@ pub fn to_instruction(record: &Record) -> Option<InstructionRecord> {
     })
 }
 
+/// `None` where a field is outside its list, a register above 15, or a destination an immediate or on the code page.
+pub fn to_instruction(record: &Record) -> Option<InstructionRecord> {
+    let is_register = |number: u8| usize::from(number) <= REGISTERS;
+    let are_registers = [record.src0, record.src1, record.dst0].into_iter().all(is_register);
+    let is_destination = !matches!(record.destination_kind, kind::IMMEDIATE | kind::CODE_PAGE);
+    let is_kind = record.return_kind <= return_kind::PANIC;
+    if !are_registers || !is_destination || !is_kind {
+        return None;
+    }
+    state_instruction(record).ok()
+}
+
 pub fn to_instructions(records: &Records) -> Option<InstructionRecords> {
     Some(InstructionRecords {
         plain: to_instruction(&records.plain)?,
         panic: to_instruction(&records.panic)?,
         nop: to_instruction(&records.nop)?,
+    })
+}
+
+/// The three, good or not.
+pub fn state_instructions(records: &Records) -> Result<InstructionRecords, Unstated> {
+    Ok(InstructionRecords {
+        plain: state_instruction(&records.plain)?,
+        panic: state_instruction(&records.panic)?,
+        nop: state_instruction(&records.nop)?,
     })
 }

@@ -235,32 +235,36 @@ impl Writer {
         }
     }
 
-    fn record(&mut self, record: &Record) {
+    fn record(&mut self, which: &str, record: &Record) {
         let numbers = [
-            record.operation,
-            record.return_kind,
-            record.condition,
-            record.source_kind,
-            record.destination_kind,
-            record.src0,
-            record.src1,
-            record.dst0,
+            ("operation", record.operation),
+            ("return kind", record.return_kind),
+            ("condition", record.condition),
+            ("source kind", record.source_kind),
+            ("destination kind", record.destination_kind),
+            ("src0", record.src0),
+            ("src1", record.src1),
+            ("dst0", record.dst0),
         ];
-        numbers.into_iter().for_each(|number| self.put("", number));
-        self.put("", record.imm_0);
-        self.put("", record.imm_1);
-        self.put("", record.price);
+        for (name, number) in numbers {
+            self.put(format_args!("{which}: {name}"), number);
+        }
+        self.put(format_args!("{which}: imm_0"), record.imm_0);
+        self.put(format_args!("{which}: imm_1"), record.imm_1);
+        self.put(format_args!("{which}: price"), record.price);
         let flags = [
-            record.explicit_panic,
-            record.kernel_only,
-            record.allowed_when_static,
-            record.swap,
-            record.set_flags,
-            record.to_label,
-            record.src0_may_be_pointer,
-            record.src1_may_be_pointer,
+            ("explicit panic", record.explicit_panic),
+            ("kernel only", record.kernel_only),
+            ("allowed when static", record.allowed_when_static),
+            ("swap", record.swap),
+            ("set flags", record.set_flags),
+            ("to label", record.to_label),
+            ("src0 may be pointer", record.src0_may_be_pointer),
+            ("src1 may be pointer", record.src1_may_be_pointer),
         ];
-        flags.into_iter().for_each(|flag| self.put("", flag));
+        for (name, flag) in flags {
+            self.put(format_args!("{which}: {name}"), flag);
+        }
     }
 
     fn location(&mut self, name: impl Display, location: Option<Location>) {
@@ -292,6 +296,18 @@ impl Writer {
         self.location("destination", before.destination);
     }
 
+    fn case(&mut self, case: &Case) {
+        self.put("depth limit", case.settings.limit);
+        self.put("multiplier", case.settings.multiplier);
+        self.put("time step", case.settings.time_step);
+        self.state(&case.state);
+        self.record("plain", &case.records.plain);
+        self.record("panic", &case.records.panic);
+        self.record("nop", &case.records.nop);
+        self.word("code word", case.code_word);
+        self.register("source", case.source);
+    }
+
     fn finished(&mut self, finished: &Finished) {
         self.state(&finished.state);
         if let Some(before) = &finished.before {
@@ -317,16 +333,22 @@ pub fn case_line(case: &Case) -> String {
     if case.part == Part::Execute {
         writer.line.push_str(EXECUTE);
     }
-    writer.put("", case.settings.limit);
-    writer.put("", case.settings.multiplier);
-    writer.put("", case.settings.time_step);
-    writer.state(&case.state);
-    writer.record(&case.records.plain);
-    writer.record(&case.records.panic);
-    writer.record(&case.records.nop);
-    writer.word("", case.code_word);
-    writer.register("", case.source);
+    writer.case(case);
     writer.line
+}
+
+/// The fields of a case that are not 0, by name. Settings are left out where they are `usual`.
+pub fn case_in_words(case: &Case, usual: Settings) -> String {
+    let mut writer = Writer {
+        line: String::new(),
+        names: Some(Vec::new()),
+    };
+    writer.case(case);
+    let usual = if case.settings == usual { 3 } else { 0 };
+    let names = writer.names.unwrap_or_default();
+    let fields = names.iter().zip(writer.line.split(' ')).skip(usual);
+    let words = fields.filter(|(_, number)| *number != "0");
+    Vec::from_iter(words.map(|(name, number)| format!("{name} {number}"))).join(", ")
 }
 
 pub fn finished_line(finished: &Finished) -> String {

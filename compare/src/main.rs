@@ -9,8 +9,10 @@ mod format;
 mod list;
 mod machine;
 mod oracle;
+mod outside;
 mod places;
 mod random;
+mod replay;
 #[cfg(test)]
 mod tests;
 
@@ -25,7 +27,8 @@ const USAGE: &str = "usage: compare cases SEED COUNT            print cases
        compare list-unread SEED           lines that cannot be read, or only just
        compare oracle < CASES             what the Rust does on each
        compare expected < CASES           what the port owes on each
-       compare run REPLAY_BIN SEED COUNT  compare the two";
+       compare run REPLAY_BIN SEED COUNT  compare the two
+       compare outside REPLAY_BIN SEED COUNT  what both do outside the domain";
 
 fn main() -> ExitCode {
     let arguments: Vec<String> = std::env::args().skip(1).collect();
@@ -38,6 +41,7 @@ fn main() -> ExitCode {
         ["oracle"] => Some(answer_cases(Outcome::line).map(|()| true)),
         ["expected"] => Some(answer_cases(expected).map(|()| true)),
         ["run", replay, seed, count] => numbers(seed, count).map(|(seed, count)| compare::run(replay, seed, count)),
+        ["outside", replay, seed, count] => numbers(seed, count).map(|(seed, count)| outside::run(replay, seed, count)),
         _ => None,
     };
     match done {

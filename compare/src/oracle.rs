@@ -23,10 +23,7 @@ pub const BUILT_WITH: Settings = Settings {
     time_step: system_params::TIME_DELTA_PER_CYCLE,
 };
 
-const _: () = assert!(
-    1 <= BUILT_WITH.limit && BUILT_WITH.limit <= MOST_ROWS,
-    "the depth limit is from 1 to 16"
-);
+const _: () = assert!(BUILT_WITH.limit <= MOST_ROWS, "the depth limit is at most 16");
 
 pub enum Outcome {
     Finished(Box<Finished>),
@@ -55,6 +52,30 @@ impl Outcome {
             Self::Panicked(place) => places::refusal_at(place),
             Self::Refused(refusal) => Some(*refusal),
             Self::Outside(refusal) => *refusal,
+        }
+    }
+}
+
+/// What the Rust did on a case, in the domain or not.
+pub struct Ran {
+    pub outcome: Outcome,
+    pub kept: Option<Choice>,
+    /// Which of refusals 5 to 7 holds, if any, where the Rust came to the operation.
+    pub left_out: Option<u32>,
+}
+
+impl Ran {
+    /// The answer, which refusals 5 to 7 put outside the domain.
+    fn answer(self) -> Answer {
+        let left_out = self.left_out.map(|number| {
+            Outcome::Outside(Some(Refusal {
+                number,
+                stage: places::EXECUTE,
+            }))
+        });
+        Answer {
+            outcome: left_out.unwrap_or(self.outcome),
+            kept: self.kept,
         }
     }
 }
@@ -99,34 +120,41 @@ impl Oracle {
     }
 
     fn run_cycle(&self, case: &Case) -> Answer {
-        let instructions = match check_domain(case) {
-            Ok(instructions) => instructions,
-            Err(refusal) => {
-                return Answer {
-                    outcome: Outcome::Outside(refusal),
-                    kept: None,
-                }
-            }
-        };
+        match check_domain(case) {
+            Ok(instructions) => self.step(case, instructions).answer(),
+            Err(refusal) => Answer {
+                outcome: Outcome::Outside(refusal),
+                kept: None,
+            },
+        }
+    }
+
+    /// Runs the Rust on a case, in the domain or not, wherever its types and the stand-ins can state it.
+    pub fn run_anyway(&self, case: &Case) -> Result<Ran, Unstated> {
+        if !case.state.saved.iter().all(Row::is_good) {
+            return Err("a row that is not good");
+        }
+        match case.part {
+            Part::Cycle => Ok(self.step(case, state_instructions(&case.records)?)),
+            Part::Execute => alone::run_anyway(self, case),
+        }
+    }
+
+    fn step(&self, case: &Case, instructions: instruction::InstructionRecords) -> Ran {
         instruction::hand_in(instructions);
         let mut machine = machine(to_local_state(&case.state), U256(case.code_word), to_primitive(case.source));
         let mut recorder = Recorder::default();
-        let end = self.catch(|| machine.cycle(&mut recorder));
-        let left_out = recorder.operands.and_then(|operands| operands.left_out);
-        let outcome = match (left_out, end) {
-            (Some(number), _) => Outcome::Outside(Some(Refusal {
-                number,
-                stage: places::EXECUTE,
-            })),
-            (None, Err(place)) => Outcome::Panicked(place),
-            (None, Ok(result)) => {
+        let outcome = match self.catch(|| machine.cycle(&mut recorder)) {
+            Err(place) => Outcome::Panicked(place),
+            Ok(result) => {
                 result.expect("no operation carried over makes an error");
                 Outcome::Finished(Box::new(finished(case, &machine, &recorder)))
             }
         };
-        Answer {
+        Ran {
             outcome,
             kept: recorder.decoded.map(|decoded| kept(case, &decoded)),
+            left_out: recorder.operands.and_then(|operands| operands.left_out),
         }
     }
 

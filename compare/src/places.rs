@@ -1,6 +1,8 @@
 //! Where the Rust panics, and which refusal of document 01 each place is.
 
 use std::fmt::{Display, Formatter};
+use std::fs;
+use std::path::Path;
 
 /// A file of the sources, named from their folder, and a line.
 #[derive(Clone, Debug, PartialEq, Eq, PartialOrd, Ord)]
@@ -58,6 +60,20 @@ fn entry(place: &Place) -> Option<&'static (&'static str, u32, &'static str, u32
 /// The refusal that a panic at this place is, or `None` where the table has no such place.
 pub fn refusal_at(place: &Place) -> Option<Refusal> {
     entry(place).map(|&(_, _, _, number, stage)| Refusal { number, stage })
+}
+
+/// The function of the sources that this place is in.
+pub fn function_at(place: &Place) -> Option<String> {
+    let text = fs::read_to_string(Path::new(zk_evm::FOLDER).join(&place.file)).ok()?;
+    let lines = Vec::from_iter(text.lines().take(place.line as usize));
+    let is_comment = |line: &str| line.trim_start().starts_with("//");
+    let name = |line: &&str| {
+        let (before, rest) = line.split_once("fn ")?;
+        let is_word = before.is_empty() || before.ends_with(' ');
+        let name: String = rest.chars().take_while(|c| c.is_alphanumeric() || *c == '_').collect();
+        (is_word && !is_comment(line)).then_some(name)
+    };
+    lines.iter().rev().find_map(name)
 }
 
 /// What fails at this place.

@@ -2,47 +2,12 @@
 
 use crate::case::*;
 use crate::cases;
+use crate::cases::calm::{self, alone};
 use crate::format::{case_line, finished_line, finished_names, read_case};
 use crate::oracle::{Oracle, Outcome, BUILT_WITH};
 use std::collections::BTreeSet;
 
 const MOST: Word = [u64::MAX; 4];
-
-/// One at depth 1 in a local frame, all else 0 or no.
-fn calm(operation: u8) -> Case {
-    let mut current = Row([0; ROW]);
-    current.0[place::LOCAL] = 1;
-    let record = |operation, return_kind| Record {
-        operation,
-        return_kind,
-        allowed_when_static: true,
-        ..Record::default()
-    };
-    Case {
-        part: Part::Cycle,
-        settings: BUILT_WITH,
-        state: State {
-            registers: Default::default(),
-            flags: [false; 3],
-            timestamp: 0,
-            cycle_counter: 0,
-            pending_exception: false,
-            previous_code_word: [0; 4],
-            previous_code_page: 0,
-            previous_super_pc: 0,
-            revert_counter: 0,
-            current,
-            saved: vec![Row([0; ROW])],
-        },
-        records: Records {
-            plain: record(operation, return_kind::OK),
-            panic: record(operation::RETURN, return_kind::PANIC),
-            nop: record(operation::NOP, return_kind::OK),
-        },
-        code_word: [0; 4],
-        source: Register::default(),
-    }
-}
 
 fn finish(case: &Case) -> Finished {
     match Oracle::new().run(case).outcome {
@@ -55,14 +20,6 @@ fn before(finished: &Finished) -> BeforeExecute {
     finished.before.expect("a whole cycle")
 }
 
-/// A calm one about execute alone, at this depth.
-fn alone(operation: u8, depth: u32) -> Case {
-    let mut case = calm(operation);
-    case.part = Part::Execute;
-    case.state.saved = vec![Row([0; ROW]); depth as usize];
-    case
-}
-
 fn refusal(case: &Case) -> u32 {
     let outcome = Oracle::new().run(case).outcome;
     outcome.refusal().map_or(0, |refusal| refusal.number)
@@ -70,7 +27,7 @@ fn refusal(case: &Case) -> u32 {
 
 #[test]
 fn price_and_ergs() {
-    let mut case = calm(operation::NOP);
+    let mut case = calm::cycle(operation::NOP);
     case.state.current.0[place::ERGS] = 100;
     case.records.plain.price = 100;
     let covered = finish(&case);
@@ -84,7 +41,7 @@ fn price_and_ergs() {
 #[test]
 fn ergs_of_a_near_call() {
     for (want, given) in [(300, 300), (0, 969), (969, 969), (970, 969)] {
-        let mut case = calm(operation::NEAR_CALL);
+        let mut case = calm::cycle(operation::NEAR_CALL);
         case.state.current.0[place::ERGS] = 969;
         case.state.registers[0].value[0] = want;
         case.records.plain.src0 = 1;
@@ -102,7 +59,7 @@ fn stack_pointer() {
         (10, Some(1), Some(2), 9, 9, 11),
     ];
     for (sp, pop, push, read, written, after) in edges {
-        let mut case = calm(operation::ADD);
+        let mut case = calm::cycle(operation::ADD);
         case.state.current.0[place::SP] = sp;
         let plain = &mut case.records.plain;
         plain.source_kind = pop.map_or(kind::REGISTER, |_| kind::PUSH_POP);
@@ -127,7 +84,7 @@ fn flags_of_add_and_sub() {
         (operation::SUB, [5, 0, 0, 0], [5, 0, 0, 0], [0; 4], [false, true, false]),
     ];
     for (operation, a, b, result, flags) in edges {
-        let mut case = calm(operation);
+        let mut case = calm::cycle(operation);
         case.state.registers[0].value = a;
         case.state.registers[1].value = b;
         let plain = &mut case.records.plain;
@@ -139,7 +96,7 @@ fn flags_of_add_and_sub() {
 
 #[test]
 fn last_pc() {
-    let mut case = calm(operation::NOP);
+    let mut case = calm::cycle(operation::NOP);
     case.state.current.0[place::PC] = 65_535;
     case.code_word = [7, 8, 9, 10];
     let finished = finish(&case);
@@ -150,16 +107,16 @@ fn last_pc() {
 
 #[test]
 fn pubdata_of_a_return() {
-    let mut case = calm(operation::RETURN);
+    let mut case = calm::cycle(operation::RETURN);
     case.state.saved[0].0[place::PUBDATA] = i32::MAX as u32;
     case.state.current.0[place::PUBDATA] = 1;
     assert_eq!(refusal(&case), 10);
 
-    let mut case = calm(operation::RETURN);
+    let mut case = calm::cycle(operation::RETURN);
     case.state.revert_counter = u32::MAX;
     assert_eq!(refusal(&case), 11);
 
-    let mut case = calm(operation::RETURN);
+    let mut case = calm::cycle(operation::RETURN);
     case.records.plain.return_kind = return_kind::PANIC;
     case.state.revert_counter = 5;
     for (child, after) in [(5, 0), (-3, 8)] {
@@ -245,7 +202,7 @@ fn lines_are_read_back() {
 
 #[test]
 fn every_field_has_a_name() {
-    for case in [calm(operation::NOP), alone(operation::NOP, 1)] {
+    for case in [calm::cycle(operation::NOP), alone(operation::NOP, 1)] {
         let finished = finish(&case);
         assert_eq!(finished_names(&finished).len(), finished_line(&finished).split(' ').count() - 1);
     }

@@ -1,5 +1,7 @@
 //! Cases by seed, over the domain of document 01 and its edges. Most of them finish.
 
+pub mod calm;
+mod leave;
 mod records;
 mod returns;
 mod short;
@@ -46,6 +48,26 @@ pub fn short_spoiled(seed: u64, number: u64) -> Case {
     maker.drop_rows(&mut case.state.saved);
     maker.shorten(&mut case);
     maker.spoil(&mut case);
+    case
+}
+
+/// One that most often leaves the domain, as many as possible for one reason alone.
+pub fn leaving(seed: u64, number: u64) -> Case {
+    let mut maker = Maker::new(seed, number);
+    let mut case = match maker.random.below(4) {
+        0 | 1 => maker.bare(),
+        2 => {
+            let mut case = maker.case(number);
+            maker.drop_rows(&mut case.state.saved);
+            maker.shorten(&mut case);
+            case
+        }
+        _ => maker.case(number),
+    };
+    maker.leave(&mut case);
+    if maker.random.below(8) == 0 {
+        maker.leave(&mut case);
+    }
     case
 }
 
@@ -115,7 +137,7 @@ impl Maker {
         let part = self.random.below(1000);
         if part < ended {
             0
-        } else if part < ended + full || limit == 1 {
+        } else if part < ended + full || limit <= 1 {
             limit
         } else {
             1 + self.random.below(limit - 1)

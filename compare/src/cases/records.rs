@@ -31,7 +31,7 @@ const OPERATIONS_ALONE: [u8; 10] = [
     operation::RETURN,
 ];
 
-const DESTINATIONS: [u8; 4] = [kind::REGISTER, kind::PUSH_POP, kind::STACK_OFFSET, kind::ABSOLUTE_STACK];
+pub const DESTINATIONS: [u8; 4] = [kind::REGISTER, kind::PUSH_POP, kind::STACK_OFFSET, kind::ABSOLUTE_STACK];
 
 impl Maker {
     /// The plain record. An ended execution takes a nop, an exception a panic return.

@@ -4,7 +4,7 @@ use super::Maker;
 use crate::case::*;
 
 /// Fields of a row, with the least value that makes it not good.
-const NOT_GOOD: [(usize, u32); 8] = [
+pub const NOT_GOOD: [(usize, u32); 8] = [
     (place::SP, 1 << 16),
     (place::PC, 1 << 16),
     (place::HANDLER, 1 << 16),
@@ -65,7 +65,7 @@ impl Maker {
 
     fn spoil_settings(&mut self, settings: &mut Settings) {
         match self.random.below(4) {
-            0 => settings.limit -= 1,
+            0 => settings.limit = settings.limit.saturating_sub(1),
             1 => settings.limit = 0,
             2 => settings.multiplier ^= 1,
             _ => settings.time_step ^= 1,

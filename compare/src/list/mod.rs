@@ -2,7 +2,7 @@
 
 mod edges;
 mod labels;
-mod reasons;
+pub mod reasons;
 mod run;
 #[cfg(test)]
 mod tests;

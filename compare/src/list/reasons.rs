@@ -20,7 +20,7 @@ pub fn of(run: &Run, number: u32) -> Vec<String> {
 }
 
 /// Fields outside their lists.
-fn fields(which: &str, record: &Record) -> Vec<String> {
+pub fn fields(which: &str, record: &Record) -> Vec<String> {
     let fields = [
         ("operation", record.operation > operation::OTHER),
         ("return kind", record.return_kind > return_kind::PANIC),
@@ -38,7 +38,7 @@ fn fields(which: &str, record: &Record) -> Vec<String> {
 }
 
 /// Fields of the three records, and masked records that are not what they should be.
-fn record_reasons(records: &Records) -> Vec<String> {
+pub fn record_reasons(records: &Records) -> Vec<String> {
     let Records { plain, panic, nop } = records;
     let mut reasons = fields("plain", plain);
     for (which, record, is_right) in [("panic", panic, panic.is_panic_return()), ("nop", nop, nop.is_nop())] {
@@ -52,7 +52,7 @@ fn record_reasons(records: &Records) -> Vec<String> {
 }
 
 /// A plain record that does not fit the state.
-fn plain_reasons(state: &State, plain: &Record) -> Vec<String> {
+pub fn plain_reasons(state: &State, plain: &Record) -> Vec<String> {
     if !fields("plain", plain).is_empty() {
         return Vec::new();
     }
