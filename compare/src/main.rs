@@ -5,6 +5,7 @@ mod case;
 mod cases;
 mod compare;
 mod convert;
+mod differences;
 mod format;
 mod list;
 mod machine;
@@ -28,7 +29,8 @@ const USAGE: &str = "usage: compare cases SEED COUNT            print cases
        compare oracle < CASES             what the Rust does on each
        compare expected < CASES           what the port owes on each
        compare run REPLAY_BIN SEED COUNT  compare the two
-       compare outside REPLAY_BIN SEED COUNT  what both do outside the domain";
+       compare outside REPLAY_BIN SEED COUNT  what both do outside the domain
+       compare differences REPLAY_BIN     the rows of docs/DIFFERENCES.md";
 
 fn main() -> ExitCode {
     let arguments: Vec<String> = std::env::args().skip(1).collect();
@@ -42,6 +44,7 @@ fn main() -> ExitCode {
         ["expected"] => Some(answer_cases(expected).map(|()| true)),
         ["run", replay, seed, count] => numbers(seed, count).map(|(seed, count)| compare::run(replay, seed, count)),
         ["outside", replay, seed, count] => numbers(seed, count).map(|(seed, count)| outside::run(replay, seed, count)),
+        ["differences", replay] => Some(differences::run(replay)),
         _ => None,
     };
     match done {

@@ -10,7 +10,6 @@ pub fn cycle(operation: u8) -> Case {
     let record = |operation, return_kind| Record {
         operation,
         return_kind,
-        allowed_when_static: true,
         ..Record::default()
     };
     Case {

@@ -35,7 +35,7 @@ impl Class {
     pub fn ends(&self) -> &'static str {
         let rust = self.rust.split_once(' ').map_or("finished", |(first, _)| first);
         match (self.port.starts_with("ok"), rust) {
-            _ if self.port.contains(OWED) => "not what document 01 owes",
+            _ if self.port.contains(OWED) => "not what is owed",
             (true, "cannot") => "ok, the Rust cannot state it",
             (true, _) if self.port == EQUAL => "ok, equal",
             (true, _) if self.has_other_settings => "ok, and the Rust another with its constants",
@@ -47,9 +47,9 @@ impl Class {
         }
     }
 
-    /// The port does not do what document 01 owes, or goes on where the Rust, with the same settings, does something else.
+    /// The port does not do what is owed, or goes on where the Rust, with the same settings, does something else.
     pub fn is_alarming(&self) -> bool {
-        matches!(self.ends(), "not what document 01 owes" | "ok, and the Rust another")
+        matches!(self.ends(), "not what is owed" | "ok, and the Rust another")
     }
 }
 
@@ -89,16 +89,32 @@ impl Looker {
         let ran = self.oracle.run_anyway(case);
         let answer = self.replay.answer(case)?;
         let reasons = reasons::of(case, ran.as_ref().ok());
+        let has_other_settings = reasons.iter().any(Reason::is_about_settings);
+        let reason = the_reason(reasons, &ran);
+        let owed = self.owed(case, &reason, &ran);
         Ok(Class {
             part: case.part,
-            has_other_settings: reasons.iter().any(Reason::is_about_settings),
-            reason: the_reason(reasons, &ran),
-            port: match self.oracle.run(case).outcome.refusal().map(|owed| owed.to_string()) {
+            has_other_settings,
+            reason,
+            port: match owed {
                 Some(owed) if owed != answer => format!("{}{OWED} {owed}", port(&answer, &ran)),
                 _ => port(&answer, &ran),
             },
             rust: self.rust(&ran),
         })
+    }
+
+    /// The line that the port owes, if any: by document 01, or by the Rust where the case could as well have been in the domain.
+    fn owed(&self, case: &Case, reason: &Reason, ran: &Result<Ran, Unstated>) -> Option<String> {
+        let by_document = self.oracle.run(case).outcome.refusal();
+        match (by_document, ran) {
+            (Some(refusal), _) => Some(refusal.to_string()),
+            (None, Ok(ran)) if *reason == Reason::Source => {
+                let refusal = ran.outcome.refusal().map(|refusal| refusal.to_string());
+                Some(refusal.unwrap_or(ran.outcome.line()))
+            }
+            _ => None,
+        }
     }
 
     fn rust(&mut self, ran: &Result<Ran, Unstated>) -> String {

@@ -25,8 +25,8 @@ struct Met {
     length: usize,
 }
 
-/// So many cases outside the domain. `Ok(true)` where the port refuses all that document 01 owes, and is equal wherever it goes on and the Rust
-/// has the same settings.
+/// So many cases outside the domain. `Ok(true)` where the port does all that it owes, and is equal wherever it goes on and the Rust has the
+/// same settings.
 pub fn run(replay: &str, seed: u64, count: u64) -> io::Result<bool> {
     let oracle = Oracle::new();
     let mut looker = Looker::new(Replay::start(replay)?);
