@@ -1,9 +1,11 @@
 //! All the ways out of the domain.
 
+use super::records::DESTINATIONS;
 use super::spoil::NOT_GOOD;
 use super::{calm, Maker};
 use crate::case::*;
 use crate::oracle::BUILT_WITH;
+use crate::random::Random;
 
 impl Maker {
     /// A case with little in it, at times a record that is masked away.
@@ -39,7 +41,7 @@ impl Maker {
         plain.allowed_when_static = !self.one_in(10);
         if self.one_in(3) {
             plain.source_kind = self.random.below(6) as u8;
-            plain.destination_kind = self.random.pick(&super::records::DESTINATIONS);
+            plain.destination_kind = self.random.pick(&DESTINATIONS);
             plain.swap = self.random.bit();
             plain.src0 = self.random.below(2) as u8;
             plain.src1 = self.random.below(2) as u8;
@@ -105,7 +107,7 @@ impl Maker {
 
     /// The least value outside a field's list, or the greatest.
     fn leave_fields(&mut self, record: &mut Record) {
-        let beyond = |least: u8, random: &mut crate::random::Random| if random.bit() { least } else { u8::MAX };
+        let beyond = |least: u8, random: &mut Random| if random.bit() { least } else { u8::MAX };
         let random = &mut self.random;
         match random.below(10) {
             0 => record.operation = beyond(6, random),

@@ -5,6 +5,7 @@ use super::row::*;
 use crate::case::*;
 use crate::cases::calm;
 use crate::oracle::BUILT_WITH;
+use crate::places::{DECODE, EXECUTE, FETCH};
 use Rust::{CannotBeStated, Finishes, RunsAStandIn};
 
 pub fn rows() -> Vec<Entry> {

@@ -4,6 +4,7 @@ use super::row::*;
 use crate::case::*;
 use crate::cases::calm;
 use crate::oracle::BUILT_WITH;
+use crate::places::{DECODE, EXECUTE, FETCH, OPERANDS};
 use Rust::Panics;
 
 const CYCLE: &str = "vm_state/cycle.rs";
@@ -148,8 +149,7 @@ fn cycle_counter() -> Vec<Case> {
     vec![case, ended]
 }
 
-/// Three cases, each of which keeps another record with this change: the plain one of an add and of a near call, the panic record, the nop
-/// record.
+/// Cases that keep a record with this change: the plain one of an add and of a near call, the panic record, the nop record.
 fn kept_with(change: fn(&mut Record)) -> Vec<Case> {
     vec![
         with(calm::cycle(operation::ADD), |case| change(&mut case.records.plain)),

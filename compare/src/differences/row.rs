@@ -1,8 +1,8 @@
 //! A row: its cases, and what the file says that the two do on each.
 
-use crate::case::{place, Case};
+use crate::case::{place, Case, MOST_ROWS};
 use crate::oracle::BUILT_WITH;
-use crate::places::{self, Refusal};
+use crate::places::Refusal;
 use std::fmt::{Display, Formatter};
 
 #[derive(Clone, Copy)]
@@ -84,7 +84,7 @@ impl Needs {
             Self::TimeStep => limit > 1 && BUILT_WITH.time_step > 0,
             Self::LimitAbove0 => limit > 0,
             Self::Limit0 => limit == 0,
-            Self::LimitBelow16 => limit < crate::case::MOST_ROWS,
+            Self::LimitBelow16 => limit < MOST_ROWS,
         }
     }
 }
@@ -131,11 +131,6 @@ pub fn words(refusal: Refusal) -> String {
 pub const fn refuses(number: u32, stage: u32) -> Port {
     Port::Refuses(Refusal { number, stage })
 }
-
-pub const FETCH: u32 = places::FETCH;
-pub const DECODE: u32 = places::DECODE;
-pub const OPERANDS: u32 = places::OPERANDS;
-pub const EXECUTE: u32 = places::EXECUTE;
 
 /// A row about cases that are one cycle, or execute alone, at depth 1 or below.
 pub fn row(name: &'static str, cases: fn() -> Vec<Case>, rust: Rust, port: Port) -> Entry {

@@ -26,7 +26,7 @@ fn every_row_is_named() {
     assert_eq!(distinct.len(), run.len());
 }
 
-/// A row's third column has the function that panics, or says that the Rust finishes; its fourth has the stage and the refusal.
+/// The Rust's column has the function that panics, or says how else it ends; the port's has the stage and the refusal.
 #[test]
 fn rows_say_what_is_run() {
     for ((name, columns), row) in of_file().iter().zip(rows()) {

@@ -18,38 +18,65 @@ pub struct Class {
     pub reason: Reason,
     /// whether a setting is not the constant
     pub has_other_settings: bool,
-    pub port: String,
-    pub rust: String,
+    pub port: Port,
+    pub rust: Rust,
 }
 
-const EQUAL: &str = "ok, equal";
-const DIFFERENT: &str = "ok, different";
-const OWED: &str = ", but owed is";
+#[derive(Clone, Debug, PartialEq, Eq, PartialOrd, Ord)]
+pub enum Port {
+    /// `ok`, with the Rust's numbers
+    Equal,
+    /// `ok`, with other numbers
+    Different,
+    /// `ok`, where the Rust does not finish
+    Ok,
+    /// the answer
+    Refused(String),
+    /// the answer, and the one that is owed
+    NotOwed(String, String),
+}
+
+#[derive(Clone, Debug, PartialEq, Eq, PartialOrd, Ord)]
+pub enum Rust {
+    Finished,
+    /// the place and its function
+    Panicked(String),
+    StandInPanicked(String),
+    Unstated(Unstated),
+}
+
+/// What the two do, in short.
+#[derive(Clone, Copy, Debug, PartialEq, Eq, PartialOrd, Ord)]
+pub enum Ends {
+    Equal,
+    OtherByConstants,
+    Other,
+    OkUnstated,
+    RefusedFinished,
+    RefusedPanicked,
+    RefusedStandIn,
+    RefusedUnstated,
+    NotOwed,
+}
 
 impl Class {
-    pub fn is_different(&self) -> bool {
-        self.port == DIFFERENT
-    }
-
-    /// What the two do, in short.
-    pub fn ends(&self) -> &'static str {
-        let rust = self.rust.split_once(' ').map_or("finished", |(first, _)| first);
-        match (self.port.starts_with("ok"), rust) {
-            _ if self.port.contains(OWED) => "not what is owed",
-            (true, "cannot") => "ok, the Rust cannot state it",
-            (true, _) if self.port == EQUAL => "ok, equal",
-            (true, _) if self.has_other_settings => "ok, and the Rust another with its constants",
-            (true, _) => "ok, and the Rust another",
-            (false, "cannot") => "refused, the Rust cannot state it",
-            (false, "finished") => "refused, the Rust finishes",
-            _ if self.rust.contains("stand-in") => "refused, a stand-in panics",
-            _ => "refused, the Rust panics",
+    pub fn ends(&self) -> Ends {
+        match (&self.port, &self.rust) {
+            (Port::NotOwed(..), _) => Ends::NotOwed,
+            (Port::Equal, _) => Ends::Equal,
+            (Port::Refused(_), Rust::Finished) => Ends::RefusedFinished,
+            (Port::Refused(_), Rust::Panicked(_)) => Ends::RefusedPanicked,
+            (Port::Refused(_), Rust::StandInPanicked(_)) => Ends::RefusedStandIn,
+            (Port::Refused(_), Rust::Unstated(_)) => Ends::RefusedUnstated,
+            (_, Rust::Unstated(_)) => Ends::OkUnstated,
+            _ if self.has_other_settings => Ends::OtherByConstants,
+            _ => Ends::Other,
         }
     }
 
     /// The port does not do what is owed, or goes on where the Rust, with the same settings, does something else.
     pub fn is_alarming(&self) -> bool {
-        matches!(self.ends(), "not what is owed" | "ok, and the Rust another")
+        matches!(self.ends(), Ends::NotOwed | Ends::Other)
     }
 }
 
@@ -64,12 +91,51 @@ impl Display for Class {
     }
 }
 
+impl Display for Port {
+    fn fmt(&self, f: &mut Formatter<'_>) -> std::fmt::Result {
+        match self {
+            Self::Equal => write!(f, "ok, equal"),
+            Self::Different => write!(f, "ok, different"),
+            Self::Ok => write!(f, "ok"),
+            Self::Refused(answer) => write!(f, "{answer}"),
+            Self::NotOwed(answer, owed) => write!(f, "{answer}, but owed is {owed}"),
+        }
+    }
+}
+
+impl Display for Rust {
+    fn fmt(&self, f: &mut Formatter<'_>) -> std::fmt::Result {
+        match self {
+            Self::Finished => write!(f, "finished"),
+            Self::Panicked(place) => write!(f, "panicked {place}"),
+            Self::StandInPanicked(place) => write!(f, "panicked in a stand-in, {place}"),
+            Self::Unstated(what) => write!(f, "cannot be stated: {what}"),
+        }
+    }
+}
+
+impl Display for Ends {
+    fn fmt(&self, f: &mut Formatter<'_>) -> std::fmt::Result {
+        f.write_str(match self {
+            Self::Equal => "ok, equal",
+            Self::OtherByConstants => "ok, and the Rust another with its constants",
+            Self::Other => "ok, and the Rust another with the same settings",
+            Self::OkUnstated => "ok, the Rust cannot state it",
+            Self::RefusedFinished => "refused, the Rust finishes",
+            Self::RefusedPanicked => "refused, the Rust panics",
+            Self::RefusedStandIn => "refused, a stand-in panics",
+            Self::RefusedUnstated => "refused, the Rust cannot state it",
+            Self::NotOwed => "not what is owed",
+        })
+    }
+}
+
 /// Runs both on a case.
 pub struct Looker {
     oracle: Oracle,
     replay: Replay,
-    /// where the Rust panicked so far, with the function
-    places: BTreeMap<Place, String>,
+    /// where the Rust panicked so far
+    places: BTreeMap<Place, Rust>,
 }
 
 impl Looker {
@@ -91,15 +157,15 @@ impl Looker {
         let reasons = reasons::of(case, ran.as_ref().ok());
         let has_other_settings = reasons.iter().any(Reason::is_about_settings);
         let reason = the_reason(reasons, &ran);
-        let owed = self.owed(case, &reason, &ran);
+        let port = match self.owed(case, &reason, &ran) {
+            Some(owed) if owed != answer => Port::NotOwed(answer, owed),
+            _ => port(answer, &ran),
+        };
         Ok(Class {
             part: case.part,
-            has_other_settings,
             reason,
-            port: match owed {
-                Some(owed) if owed != answer => format!("{}{OWED} {owed}", port(&answer, &ran)),
-                _ => port(&answer, &ran),
-            },
+            has_other_settings,
+            port,
             rust: self.rust(&ran),
         })
     }
@@ -117,20 +183,20 @@ impl Looker {
         }
     }
 
-    fn rust(&mut self, ran: &Result<Ran, Unstated>) -> String {
+    fn rust(&mut self, ran: &Result<Ran, Unstated>) -> Rust {
         match ran.as_ref().map(|ran| &ran.outcome) {
-            Ok(Outcome::Finished(_)) => "finished".into(),
+            Ok(Outcome::Finished(_)) => Rust::Finished,
             Ok(Outcome::Panicked(place)) => self.panicked(place),
-            Ok(Outcome::Refused(_)) => "cannot be stated: the counter's sum, which stands in `cycle`".into(),
+            Ok(Outcome::Refused(_)) => Rust::Unstated("the counter's sum, which stands in `cycle`"),
             Ok(Outcome::Outside(_)) => unreachable!("a case of any kind is run"),
-            Err(unstated) => format!("cannot be stated: {unstated}"),
+            Err(unstated) => Rust::Unstated(unstated),
         }
     }
 
-    fn panicked(&mut self, place: &Place) -> String {
+    fn panicked(&mut self, place: &Place) -> Rust {
         let make = || match places::function_at(place) {
-            Some(function) => format!("panicked {place}, {function}"),
-            None => format!("panicked in a stand-in, {place}"),
+            Some(function) => Rust::Panicked(format!("{place}, {function}")),
+            None => Rust::StandInPanicked(place.to_string()),
         };
         self.places.entry(place.clone()).or_insert_with(make).clone()
     }
@@ -159,12 +225,12 @@ fn the_reason(reasons: Vec<Reason>, ran: &Result<Ran, Unstated>) -> Reason {
     }
 }
 
-fn port(answer: &str, ran: &Result<Ran, Unstated>) -> String {
+fn port(answer: String, ran: &Result<Ran, Unstated>) -> Port {
     let is_ok = answer.starts_with("ok ");
     match ran.as_ref().map(|ran| &ran.outcome) {
-        Ok(Outcome::Finished(finished)) if is_ok && format::finished_line(finished) == answer => EQUAL.into(),
-        Ok(Outcome::Finished(_)) if is_ok => DIFFERENT.into(),
-        _ if is_ok => "ok".into(),
-        _ => answer.into(),
+        Ok(Outcome::Finished(finished)) if is_ok && format::finished_line(finished) == answer => Port::Equal,
+        Ok(Outcome::Finished(_)) if is_ok => Port::Different,
+        _ if is_ok => Port::Ok,
+        _ => Port::Refused(answer),
     }
 }

@@ -11,7 +11,7 @@ use crate::cases;
 use crate::format;
 use crate::oracle::{Oracle, Outcome, BUILT_WITH};
 use crate::replay::Replay;
-use class::{Class, Looker};
+use class::{Class, Ends, Looker, Port, Rust};
 use std::collections::BTreeMap;
 use std::io::{self, Write};
 
@@ -60,7 +60,7 @@ pub fn run(replay: &str, seed: u64, count: u64) -> io::Result<bool> {
 }
 
 fn print_ends(classes: &BTreeMap<Class, Met>) {
-    let mut ends: BTreeMap<&str, u64> = BTreeMap::new();
+    let mut ends: BTreeMap<Ends, u64> = BTreeMap::new();
     for (class, met) in classes {
         *ends.entry(class.ends()).or_default() += met.count;
     }
@@ -69,7 +69,7 @@ fn print_ends(classes: &BTreeMap<Class, Met>) {
 }
 
 fn print(out: &mut impl Write, looker: &mut Looker, classes: &BTreeMap<Class, Met>) -> io::Result<()> {
-    let mut by_answer: BTreeMap<(&str, &str), u64> = BTreeMap::new();
+    let mut by_answer: BTreeMap<(&Port, &Rust), u64> = BTreeMap::new();
     for (class, met) in classes {
         *by_answer.entry((&class.port, &class.rust)).or_default() += met.count;
     }
@@ -88,7 +88,7 @@ fn print(out: &mut impl Write, looker: &mut Looker, classes: &BTreeMap<Class, Me
     writeln!(out, "\nthe smallest cases as lines:")?;
     for (number, (class, met)) in classes.iter().enumerate() {
         writeln!(out, "{number}: {}", format::case_line(&met.smallest))?;
-        if class.is_different() {
+        if class.port == Port::Different {
             let fields = looker.differing_fields(&met.smallest)?;
             fields.iter().try_for_each(|field| writeln!(out, "  {field}"))?;
         }
