@@ -19,10 +19,6 @@ unopened depth (e ∷ es) n =
     let p = or-parts (opensAt depth e) (isOpened depth es) n in
     rw (p .1, p .0)
 
--- what the claim says of a place that held so much before these entries, none of which is refused
-abbrev held : ℕ → ℕ → List Entry → ℕ
-held depth start es = cond (isOpened depth es) 0 start + spendOf depth (sinceOpening depth es)
-
 -- the place at i with a number put there
 put : (tally : List ℕ) (i n depth : ℕ) → i < length tally → getD (set tally i n) depth 0 ≡ cond (eqb i depth) n (getD tally depth 0)
 put tally i n depth h = go (eqb i depth) refl
@@ -73,10 +69,10 @@ module _ (tally : List ℕ) (e : Entry) (depth : ℕ) where
           ∙ ap (cond (eqb (e .after) depth) 0) added
 
   -- an entry before others counts for the place unless one of them opens the frame anew
-  first : (es : List Entry) → eqb refusal 0 ≡ true → held depth (getD after depth 0) es ≡ held depth (getD tally depth 0) (e ∷ es)
+  first : (es : List Entry) → eqb refusal 0 ≡ true → spendOf after depth es ≡ spendOf tally depth (e ∷ es)
   first es t = go (isOpened depth es) (opensAt depth e) refl refl
     where
-      go : (later now : Bool) → isOpened depth es ≡ later → opensAt depth e ≡ now → held depth (getD after depth 0) es ≡ held depth (getD tally depth 0) (e ∷ es)
+      go : (later now : Bool) → isOpened depth es ≡ later → opensAt depth e ≡ now → spendOf after depth es ≡ spendOf tally depth (e ∷ es)
       go true true l n = rw (l, n)
       go true false l n = rw (l, n)
       go false true l n = rw (place t, l, n, unopened depth es l)
@@ -88,7 +84,7 @@ place-holds-spend tally [] depth = omega arith
 place-holds-spend tally (e ∷ es) depth = go (eqb (refusal tally e depth) 0) refl (λ t. place-holds-spend t es depth)
   where
     go : (taken : Bool) → eqb (refusal tally e depth) 0 ≡ taken
-        → ((t : List ℕ) → getD (tallyAfterEntries t es) depth 0 ≡ held depth (getD t depth 0) (takenOf t es))
-        → getD (tallyAfterEntries tally (e ∷ es)) depth 0 ≡ held depth (getD tally depth 0) (takenOf tally (e ∷ es))
+        → ((t : List ℕ) → getD (tallyAfterEntries t es) depth 0 ≡ spendOf t depth (takenOf t es))
+        → getD (tallyAfterEntries tally (e ∷ es)) depth 0 ≡ spendOf tally depth (takenOf tally (e ∷ es))
     go true t rest = rw t (rest (after tally e depth) ∙ first tally e depth (takenOf (after tally e depth) es) t)
     go false t rest = rw t (rest tally)

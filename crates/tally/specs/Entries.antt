@@ -35,6 +35,7 @@ takenOf tally (e ∷ es) =
 abbrev pub opensAt : ℕ → Entry → Bool
 opensAt depth e = ltb (e .before) (e .after) && eqb (e .after) depth
 
+-- whether some entry opens the frame of a depth
 abbrev pub isOpened : ℕ → List Entry → Bool
 isOpened depth [] = false
 isOpened depth (e ∷ es) = opensAt depth e || isOpened depth es
@@ -44,15 +45,17 @@ abbrev pub sinceOpening : ℕ → List Entry → List Entry
 sinceOpening depth [] = []
 sinceOpening depth (e ∷ es) = cond (isOpened depth es) (sinceOpening depth es) (cond (opensAt depth e) es (e ∷ es))
 
--- what the frame of a depth spent in these entries: the charges while it is the current one, which are those at its depth
-abbrev pub spendOf : ℕ → List Entry → ℕ
-spendOf depth [] = 0
-spendOf depth (e ∷ es) = cond (eqb (e .before) depth) (e .charge) 0 + spendOf depth es
+-- the charges of the entries whose depth before is this one
+abbrev pub chargesAt : ℕ → List Entry → ℕ
+chargesAt depth [] = 0
+chargesAt depth (e ∷ es) = cond (eqb (e .before) depth) (e .charge) 0 + chargesAt depth es
 
--- Whatever the entries, refused ones among them, the place at a depth holds what its frame spent since it was opened; of a frame that was there before the list,
--- what the place held then is counted, too.
+-- what the frame of a depth spent, from a tally on: "a frame's charges while it is the current one", since it was opened; of a frame that was there before these
+-- entries, what its place held then is counted, too
+abbrev pub spendOf : List ℕ → ℕ → List Entry → ℕ
+spendOf tally depth es = cond (isOpened depth es) 0 (getD tally depth 0) + chargesAt depth (sinceOpening depth es)
+
+-- Whatever the entries, refused ones among them, the place at a depth holds what its frame spent.
 abbrev pub PlaceHoldsSpend : Type 0
 PlaceHoldsSpend =
-    (tally : List ℕ) (entries : List Entry) (depth : ℕ)
-    → getD (tallyAfterEntries tally entries) depth 0
-    ≡ cond (isOpened depth (takenOf tally entries)) 0 (getD tally depth 0) + spendOf depth (sinceOpening depth (takenOf tally entries))
+    (tally : List ℕ) (entries : List Entry) (depth : ℕ) → getD (tallyAfterEntries tally entries) depth 0 ≡ spendOf tally depth (takenOf tally entries)

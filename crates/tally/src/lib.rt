@@ -44,7 +44,8 @@ pub fn enter(tally: &mut [u64], limit: u32, before: u32, after: u32, charge: u32
     EnterAnswer::Entered
 }
 
-// What the tally is for, in a contract, so that it is proved with every check: after any list of entries the place at a depth holds what its frame spent.
+// What the tally is for, in a contract, so that it is proved with every check: after any list of entries the place at a depth holds what its frame spent since it
+// was opened, or, of a frame that was there before, what the place held and was charged since.
 pub fn place_holds_spend()
     ensures { λ _. ⌜ PlaceHoldsSpend ⌝ }
 {}
