@@ -1,4 +1,4 @@
--- Where operands gave no source location, execute does not look at the word. Assumes nothing.
+-- Where operands gave no source location, execute does not look at the word; where the query wanted none, fetch does not. Assumes nothing.
 use Prim.Native.Nat.{ℕ, zero, suc, _≤_}
 use mathlib.Core.Bool.{Bool, true, false, not, cond, _&&_}
 use mathlib.Core.Path.{_≡_, refl, ap, sym, subst}

@@ -9,7 +9,6 @@ use Rattle.u256.specs.U256.{valueOf, wordsOf}
 use Rattle.frame.specs.Row.{frameOf}
 use Rattle.frame.specs.Store.{rowAt}
 use Rattle.registers.specs.Registers.{emptyWord, registerOf}
-use Rattle.rules.specs.declared.Location.{Location}
 use Rattle.rules.specs.declared.Flags.{Flags}
 use Rattle.rules.specs.Charge.{anyError}
 use Rattle.cycle.specs.declared.State.{State}
@@ -17,7 +16,6 @@ use Rattle.cycle.specs.declared.Decoded.{Decoded}
 use Rattle.cycle.specs.declared.DecodeAnswer.{DecodeAnswer}
 use Rattle.cycle.specs.declared.Addressed.{Addressed}
 use Rattle.cycle.specs.declared.OperandsAnswer.{OperandsAnswer}
-use Rattle.cycle.specs.declared.FetchAnswer.{FetchAnswer}
 use Rattle.cycle.specs.declared.Event.{Event}
 use Rattle.cycle.specs.declared.Executed.{Executed}
 use Rattle.cycle.specs.declared.ExecuteAnswer.{ExecuteAnswer}
@@ -26,6 +24,7 @@ use Rattle.cycle.specs.Fetch.{queryOf, fetchOf}
 use Rattle.cycle.specs.Decode.{decodeOf}
 use Rattle.cycle.specs.Operands.{operandsOf}
 use Rattle.cycle.specs.Execute.{executeOf, executeStore}
+use Rattle.cycle.specs.Answers.{locationCase, fetchCase}
 use Rattle.stepper.specs.Start.{word, instruction, recordsOf, stateAt, settingsOf, emptyStore}
 
 pub record Edge : Type 0 where
@@ -69,14 +68,10 @@ calls multiplier held want =
     after : Executed
     after = executeOf (settingsOf 4 multiplier) emptyWord false s (emptyStore 4)
 
--- a location: 1 and its index, or 0 and 0 where there is none
-abbrev place : Location → List ℕ
-place Location.None = 0 ∷ 0 ∷ []
-place (Location.At kind page index) = 1 ∷ index ∷ []
-
--- operands of these kinds (2 is push/pop) with these immediates, at this sp: the source, the destination, and sp afterwards
+-- operands of these kinds (2 is push/pop) with these immediates, at this sp: the source and the destination, each 0 for none or 1, memory kind, page and index,
+-- and sp afterwards
 abbrev places : State → OperandsAnswer → List ℕ
-places s (OperandsAnswer.Done source destination) = place source ++ (place destination ++ (s .current .sp ∷ []))
+places s (OperandsAnswer.Done source destination) = locationCase source ++ (locationCase destination ++ (s .current .sp ∷ []))
 places s (OperandsAnswer.Refused n) = n ∷ []
 
 abbrev pub addresses : ℕ → ℕ → ℕ → ℕ → ℕ → List ℕ
@@ -97,17 +92,12 @@ combines operation a b = valueOf (registerOf (after .registers) 3) ∷ bits (aft
         executeOf (settingsOf 4 1) emptyWord false
         (stateAt 3 (wordsOf a ∷ wordsOf b ∷ replicate 13 emptyWord) 0 0 (instruction operation 0 0 0 1 2 3 0 0 0 true)) (emptyStore 4) .state
 
--- a nop at this pc: the code word that the query asks for, the part of it that fetch answers (each part holds its number, the highest 64 bits 0), and pc afterwards
-abbrev part : FetchAnswer → List ℕ
-part (FetchAnswer.Code bits) = bits ∷ []
-part FetchAnswer.Exception = []
-part FetchAnswer.Nop = []
-part (FetchAnswer.Refused n) = []
-
+-- a nop at this pc: the code word that the query asks for, as a location; what fetch answers, 0 for code and the part of the word (each part holds its number, the
+-- highest 64 bits 0); and pc afterwards
 abbrev pub steps : ℕ → List ℕ
 steps pc =
-    place (queryOf (at 0))
-    ++ (part (fetchOf (settingsOf 4 1) (record { w0 = 3; w1 = 2; w2 = 1; w3 = 0 }) (at 0) (emptyStore 4) .answer)
+    locationCase (queryOf (at 0))
+    ++ (fetchCase (fetchOf (settingsOf 4 1) (record { w0 = 3; w1 = 2; w2 = 1; w3 = 0 }) (at 0) (emptyStore 4) .answer)
     ++ (executeOf (settingsOf 4 1) emptyWord false (at 3) (emptyStore 4) .state .current .pc ∷ []))
   where
     at : ℕ → State
@@ -126,11 +116,11 @@ edges =
     -- "want 2,147,483,648 times 2 passes all"
     ∷ record { computed = calls 2 969 2147483648; stated = 2 ∷ 969 ∷ 0 ∷ [] }
     -- "sp 0, pop 1: index and sp 65,535"
-    ∷ record { computed = addresses 2 0 1 0 0; stated = 1 ∷ 65535 ∷ 0 ∷ 0 ∷ 65535 ∷ [] }
+    ∷ record { computed = addresses 2 0 1 0 0; stated = 1 ∷ 1 ∷ 1 ∷ 65535 ∷ 0 ∷ 65535 ∷ [] }
     -- "sp 65,535, push 1: index 65,535, sp 0"
-    ∷ record { computed = addresses 0 2 0 1 65535; stated = 0 ∷ 0 ∷ 1 ∷ 65535 ∷ 0 ∷ [] }
+    ∷ record { computed = addresses 0 2 0 1 65535; stated = 0 ∷ 1 ∷ 1 ∷ 1 ∷ 65535 ∷ 0 ∷ [] }
     -- "sp 10, pop 1 and push 2 together: both index 9, sp 11"
-    ∷ record { computed = addresses 2 2 1 2 10; stated = 1 ∷ 9 ∷ 1 ∷ 9 ∷ 11 ∷ [] }
+    ∷ record { computed = addresses 2 2 1 2 10; stated = 1 ∷ 1 ∷ 1 ∷ 9 ∷ 1 ∷ 1 ∷ 1 ∷ 9 ∷ 11 ∷ [] }
     -- "(2^256 - 1) + 1: 0, overflow and equal"
     ∷ record { computed = combines 1 (2 ^ 256 - 1) 1; stated = 0 ∷ 1 ∷ 1 ∷ 0 ∷ [] }
     -- "0 - 1: overflow only"
@@ -138,7 +128,7 @@ edges =
     -- "5 - 5: equal only"
     ∷ record { computed = combines 2 5 5; stated = 0 ∷ 0 ∷ 1 ∷ 0 ∷ [] }
     -- "pc 65,535: super 16,383, sub 3, next 0"
-    ∷ record { computed = steps 65535; stated = 1 ∷ 16383 ∷ 3 ∷ 0 ∷ [] }
+    ∷ record { computed = steps 65535; stated = 1 ∷ 2 ∷ 0 ∷ 16383 ∷ 0 ∷ 3 ∷ 0 ∷ [] }
     ∷ []
 
 -- every line of the table holds

@@ -1,5 +1,5 @@
--- When the words that execute and fetch are given count. Document 01: execute "takes the word read and its pointer bit, looked at only where a source location was
--- given".
+-- When execute and fetch look at the word that they are given. Document 01: execute "takes the word read and its pointer bit, looked at only where a source
+-- location was given".
 use Prim.Native.Nat.{ℕ}
 use mathlib.Core.Bool.{Bool}
 use mathlib.Core.Path.{_≡_}

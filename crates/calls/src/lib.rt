@@ -21,7 +21,7 @@ pub fn charge_answered()
 {}
 
 // Demand 3: whenever the frame of a near call closes, its caller is current again and holds what it had less the charges, no less than its share, and the frames
-// below are as they were.
+// below are as they were. The share is what it had less the call's charge and what was passed, with nothing cut off.
 pub fn callers_resume()
     ensures { λ _. ⌜ CallersResume core ⌝ }
 {}

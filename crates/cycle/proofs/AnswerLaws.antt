@@ -1,7 +1,7 @@
 -- The number of each stage's answer is that of the first check that holds, and what it tells is what document 01 says. Assumes nothing.
 use Prim.Native.Nat.{ℕ, _+_, _-_, _/_, _≤_, _<_}
 use mathlib.Core.Bool.{Bool, true, false, not, cond, _&&_, _||_}
-use mathlib.Core.Path.{_≡_, refl, sym, ap, _∙_, subst}
+use mathlib.Core.Path.{_≡_, refl, sym, ap, ap₂, _∙_, subst}
 use mathlib.Core.List.{List, [], _∷_, _++_}
 use native.Mathlib.Omega.{arith}
 use lib.Dec.{T, eqb, leb, ltb}
@@ -10,6 +10,7 @@ use borrow.Author.Tests.{eqb-true, eqb-false, eq-eqb, lt-ltb, ltb-false, leb-tru
 use mir.Val.{boolByte}
 use Rattle.u256.specs.declared.U256.{U256}
 use Rattle.u256.specs.U256.{valueOf}
+use Rattle.u256.specs.Word.{wrappingDifference}
 use Rattle.frame.specs.declared.ReadAnswer.{ReadAnswer}
 use Rattle.frame.specs.Refusal.{Check, firstOf, _refuses_}
 use Rattle.frame.specs.Row.{rowWidth, goodRow}
@@ -17,8 +18,9 @@ use Rattle.frame.specs.Store.{wholeRows, readOf}
 use Rattle.rules.specs.declared.Settings.{Settings}
 use Rattle.rules.specs.declared.Records.{Records}
 use Rattle.rules.specs.declared.Location.{Location}
-use Rattle.rules.specs.Code.{superPc}
-use Rattle.rules.specs.Record.{goodRecord}
+use Rattle.rules.specs.Charge.{errorFlags}
+use Rattle.rules.specs.Record.{isNop, goodRecord}
+use Rattle.rules.specs.Address.{onStack, inCode, sourceAt, destinationAt, sourceRead, placesOf}
 use Rattle.rules.specs.Ret.{ergsPast, isShrunk}
 use Rattle.rules.proofs.RefusalLaws.{clear, numbered}
 use Rattle.cycle.specs.declared.State.{State}
@@ -30,15 +32,16 @@ use Rattle.cycle.specs.declared.FetchAnswer.{FetchAnswer}
 use Rattle.cycle.specs.declared.DecodeAnswer.{DecodeAnswer}
 use Rattle.cycle.specs.declared.OperandsAnswer.{OperandsAnswer}
 use Rattle.cycle.specs.State.{addressed, isEnded, badStore, outOfTurn, settled}
-use Rattle.cycle.specs.Fetch.{codeWanted, locationIf, queryOf, codeAnswer, fetchRefusal, fetchDone, fetchOf}
+use Rattle.cycle.specs.Fetch.{codeWanted, queryOf, codeAnswer, fetchRefusal, fetchDone, fetchOf}
 use Rattle.cycle.specs.Decode.{decodeRefusal, decodeDone, decodeOf}
-use Rattle.cycle.specs.Operands.{recordOf, operandsRefusal, operandsDone, operandsOf}
+use Rattle.cycle.specs.Operands.{recordOf, stackPage, placesIn, operandsRefusal, operandsDone, operandsOf}
 use Rattle.cycle.specs.Helpers.{lateIn, refusedWith, isStored, writeOf, nopRefusal, nopDone, nopOf}
 use Rattle.cycle.specs.NearCall.{callRefusalIn, nearCallDone, nearCallOf}
 use Rattle.cycle.specs.Ret.{isOk, closeRefusalIn, closeDone, closeOf, returnTo, returnOf}
 use Rattle.cycle.specs.Arithmetic.{arithmeticRefusalIn, resultIn, arithmeticDone, arithmeticOf}
 use Rattle.cycle.specs.Execute.{sourcesIn, pointerIn, wantIn, executeDone, executeOf, executeStore}
-use Rattle.cycle.specs.Answers.{fetchNumber, decodeNumber, operandsNumber, executeNumber, locationCase, writeCase, operandsTold, executeTold, queryTells, operandsTells}
+use Rattle.cycle.specs.Answers.{fetchNumber, decodeNumber, operandsNumber, executeNumber}
+use Rattle.cycle.specs.Answers.{fetchCase, decodeCase, locationCase, writeCase, operandsCase, executeCase, queryTells, fetchTells, decodeTells, sourceVaddr, destinationVaddr, spAfterSource, sourceTells, destinationTells, operandsTells}
 use Rattle.cycle.specs.Answers.{topRow, topFrame, badPubdata, badReverts, lateWrite, executeChecks, writeTells, eventTells, executeTells}
 use Rattle.cycle.proofs.HelperLaws.{or-parts}
 
@@ -51,60 +54,111 @@ settled-number number n refused done r d = go (eqb n 0) refl
     go true e = d ∙ sym (eqb-true n 0 e)
     go false e = r
 
+-- what is settled by a number tells what is done, or nothing
+settled-told : {A B : Type 0} (told : A → List B) (n : ℕ) (refused : ℕ → A) (done : A) (tells : List B) → told (refused n) ≡ [] → told done ≡ tells
+    → told (settled n refused done) ≡ cond (eqb n 0) tells []
+settled-told told n refused done tells r d = go (eqb n 0)
+  where
+    go : (z : Bool) → told (cond z done (refused n)) ≡ cond z tells []
+    go true = d
+    go false = r
+
 -- ---- fetch, decode, operands
 code-number : (ended pending : Bool) (bits : ℕ) → fetchNumber (codeAnswer ended pending bits) ≡ 0
 code-number true pending bits = refl
 code-number false true bits = refl
 code-number false false bits = refl
 
+code-told : (ended pending : Bool) (bits : ℕ) → fetchCase (codeAnswer ended pending bits) ≡ cond ended (2 ∷ []) (cond pending (1 ∷ []) (0 ∷ bits ∷ []))
+code-told true pending bits = refl
+code-told false true bits = refl
+code-told false false bits = refl
+
 pub fetch-numbered : (settings : Settings) (word : U256) (s : State) (store : List ℕ) (r : Fetched) → r ≡ fetchOf settings word s store
-    → (r ≡ fetchOf settings word s store) × (fetchNumber (r .answer) ≡ fetchRefusal settings s store)
+    → (r ≡ fetchOf settings word s store)
+    × (fetchNumber (r .answer) ≡ fetchRefusal settings s store)
+    × (fetchCase (r .answer) ≡ fetchTells settings word s store)
 unfolding fetchOf fetchDone
 fetch-numbered settings word s store r e = (
   e,
   ap (λ (f : Fetched). fetchNumber (f .answer)) e
-      ∙ settled-number (λ (f : Fetched). fetchNumber (f .answer)) (fetchRefusal settings s store)
-      (λ n. record { state = s; answer = FetchAnswer.Refused n })
-      (fetchDone s word)
-      refl
-      (code-number (isEnded s) (s .«pending_exception») _),
+      ∙ settled-number (λ (f : Fetched). fetchNumber (f .answer)) n refused (fetchDone s word) refl (code-number (isEnded s) (s .«pending_exception») _),
+  ap (λ (f : Fetched). fetchCase (f .answer)) e
+      ∙ settled-told (λ (f : Fetched). fetchCase (f .answer)) n refused (fetchDone s word) _ refl (code-told (isEnded s) (s .«pending_exception») _),
 )
+  where
+    n : ℕ
+    n = fetchRefusal settings s store
+
+    refused : ℕ → Fetched
+    refused n = record { state = s; answer = FetchAnswer.Refused n }
 
 pub decode-numbered : (settings : Settings) (records : Records) (s : State) (store : List ℕ) (r : Decoded) → r ≡ decodeOf settings records s store
-    → (r ≡ decodeOf settings records s store) × (decodeNumber (r .answer) ≡ decodeRefusal settings records s store)
-unfolding decodeOf decodeDone
+    → (r ≡ decodeOf settings records s store)
+    × (decodeNumber (r .answer) ≡ decodeRefusal settings records s store)
+    × (decodeCase (r .answer) ≡ decodeTells settings records s store)
+unfolding decodeOf decodeDone errorFlags
 decode-numbered settings records s store r e = (
   e,
   ap (λ (d : Decoded). decodeNumber (d .answer)) e
-      ∙ settled-number (λ (d : Decoded). decodeNumber (d .answer)) (decodeRefusal settings records s store)
-      (λ n. record { state = s; answer = DecodeAnswer.Refused n })
-      (decodeDone settings records s)
-      refl
-      refl,
+      ∙ settled-number (λ (d : Decoded). decodeNumber (d .answer)) n refused (decodeDone settings records s) refl refl,
+  ap (λ (d : Decoded). decodeCase (d .answer)) e
+      ∙ settled-told (λ (d : Decoded). decodeCase (d .answer)) n refused (decodeDone settings records s) _ refl refl,
 )
-
--- what is settled by a number tells what is done, or nothing
-settled-told : {A : Type 0} (told : A → List (List ℕ)) (n : ℕ) (refused : ℕ → A) (done : A) → told (refused n) ≡ []
-    → told (settled n refused done) ≡ cond (eqb n 0) (told done) []
-settled-told told n refused done r = go (eqb n 0)
   where
-    go : (z : Bool) → told (cond z done (refused n)) ≡ cond z (told done) []
-    go true = refl
-    go false = r
+    n : ℕ
+    n = decodeRefusal settings records s store
+
+    refused : ℕ → Decoded
+    refused n = record { state = s; answer = DecodeAnswer.Refused n }
+
+-- by the tests of the kinds
+source-told : (nop k2 k3 k4 k5 : Bool) (page code back at : ℕ)
+    → locationCase
+    (sourceRead nop
+    (cond k2 (onStack page back) (cond k3 (onStack page back) (cond k4 (inCode code at) (cond k5 (onStack page at) Location.None)))))
+    ≡ cond nop (0 ∷ [])
+    (cond (k2 || k3) (1 ∷ 1 ∷ page ∷ back ∷ []) (cond k4 (1 ∷ 2 ∷ code ∷ at ∷ []) (cond k5 (1 ∷ 1 ∷ page ∷ at ∷ []) (0 ∷ []))))
+source-told true k2 k3 k4 k5 page code back at = refl
+source-told false true k3 k4 k5 page code back at = refl
+source-told false false true k4 k5 page code back at = refl
+source-told false false false true k5 page code back at = refl
+source-told false false false false true page code back at = refl
+source-told false false false false false page code back at = refl
+
+destination-told : (k2 k3 k5 : Bool) (page sp back at : ℕ)
+    → locationCase (cond k2 (onStack page sp) (cond k3 (onStack page back) (cond k5 (onStack page at) Location.None)))
+    ≡ cond k2 (1 ∷ 1 ∷ page ∷ sp ∷ []) (cond k3 (1 ∷ 1 ∷ page ∷ back ∷ []) (cond k5 (1 ∷ 1 ∷ page ∷ at ∷ []) (0 ∷ [])))
+destination-told true k3 k5 page sp back at = refl
+destination-told false true k5 page sp back at = refl
+destination-told false false true page sp back at = refl
+destination-told false false false page sp back at = refl
+
+places-told : (s : State) → locationCase (placesIn 16 s .source) ∷ locationCase (placesIn 16 s .destination) ∷ [] ≡ sourceTells s ∷ destinationTells s ∷ []
+unfolding placesOf sourceAt destinationAt
+places-told s =
+    ap₂ (λ (a b : List ℕ). a ∷ b ∷ [])
+    (source-told (isNop (recordOf s)) (eqb (recordOf s .«source_kind») 2) (eqb (recordOf s .«source_kind») 3) (eqb (recordOf s .«source_kind») 4)
+    (eqb (recordOf s .«source_kind») 5) (stackPage s) (s .current .«code_page») (wrappingDifference 16 (s .current .sp) (sourceVaddr s)) (sourceVaddr s))
+    (destination-told (eqb (recordOf s .«destination_kind») 2) (eqb (recordOf s .«destination_kind») 3) (eqb (recordOf s .«destination_kind») 5)
+    (stackPage s) (spAfterSource s) (wrappingDifference 16 (spAfterSource s) (destinationVaddr s)) (destinationVaddr s))
 
 pub operands-numbered : (settings : Settings) (s : State) (store : List ℕ) (r : Addressed) → r ≡ operandsOf settings s store
     → (r ≡ operandsOf settings s store)
     × (operandsNumber (r .answer) ≡ operandsRefusal settings s store)
-    × (operandsTold (r .answer) ≡ operandsTells settings s store)
+    × (operandsCase (r .answer) ≡ operandsTells settings s store)
 unfolding operandsOf operandsDone
 operands-numbered settings s store r e = (
   e,
   ap (λ (a : Addressed). operandsNumber (a .answer)) e
-      ∙ settled-number (λ (a : Addressed). operandsNumber (a .answer)) (operandsRefusal settings s store) refused (operandsDone 16 s) refl refl,
-  ap (λ (a : Addressed). operandsTold (a .answer)) e
-      ∙ settled-told (λ (a : Addressed). operandsTold (a .answer)) (operandsRefusal settings s store) refused (operandsDone 16 s) refl,
+      ∙ settled-number (λ (a : Addressed). operandsNumber (a .answer)) n refused (operandsDone 16 s) refl refl,
+  ap (λ (a : Addressed). operandsCase (a .answer)) e
+      ∙ settled-told (λ (a : Addressed). operandsCase (a .answer)) n refused (operandsDone 16 s) _ refl (places-told s),
 )
   where
+    n : ℕ
+    n = operandsRefusal settings s store
+
     refused : ℕ → Addressed
     refused n = record { state = s; answer = OperandsAnswer.Refused n }
 
@@ -139,13 +193,13 @@ either-order false false = refl
 -- an answer with this number, which tells this where the number is 0
 pub record Answers (r : Executed) (n : ℕ) (write event : List ℕ) : Type 0 where
   pub number : executeNumber (r .answer) ≡ n
-  pub told : executeTold (r .answer) ≡ cond (eqb n 0) (write ∷ event ∷ []) []
+  pub told : executeCase (r .answer) ≡ cond (eqb n 0) (write ∷ event ∷ []) []
 
-settled-answers : (s : State) (n : ℕ) (done : Executed) (write event : List ℕ) → executeNumber (done .answer) ≡ 0 → executeTold (done .answer) ≡ write ∷ event ∷ []
+settled-answers : (s : State) (n : ℕ) (done : Executed) (write event : List ℕ) → executeNumber (done .answer) ≡ 0 → executeCase (done .answer) ≡ write ∷ event ∷ []
     → Answers (settled n (refusedWith s) done) n write event
 settled-answers s n done write event d t = record {
   number = settled-number (λ (r : Executed). executeNumber (r .answer)) n (refusedWith s) done refl d;
-  told = settled-told (λ (r : Executed). executeTold (r .answer)) n (refusedWith s) done refl ∙ ap (λ (l : List (List ℕ)). cond (eqb n 0) l []) t;
+  told = settled-told (λ (r : Executed). executeCase (r .answer)) n (refusedWith s) done (write ∷ event ∷ []) refl t;
 }
 
 -- a refusal
@@ -323,10 +377,10 @@ module _ (settings : Settings) (word : U256) (pointer : Bool) (s : State) (store
       → (r ≡ executeOf settings word pointer s store)
       × (after ≡ executeStore settings word pointer s store)
       × (executeNumber (r .answer) ≡ firstOf (executeChecks settings word pointer s store))
-      × (executeTold (r .answer) ≡ executeTells settings word pointer s store)
+      × (executeCase (r .answer) ≡ executeTells settings word pointer s store)
   execute-numbered r after e = (
     e .0,
     e .1,
     ap (λ (x : Executed). executeNumber (x .answer)) (e .0) ∙ execute-answers .number,
-    ap (λ (x : Executed). executeTold (x .answer)) (e .0) ∙ execute-answers .told,
+    ap (λ (x : Executed). executeCase (x .answer)) (e .0) ∙ execute-answers .told,
   )

@@ -1,20 +1,25 @@
 -- The answers of the stages, case by case: document 01's number of a refusal, 0 where it is none; what a finished answer tells, in numbers; and all refusals of
 -- execute in one list. "Checks run by number."
-use Prim.Native.Nat.{ℕ, _+_, _-_, _^_}
+use Prim.Native.Nat.{ℕ, _+_, _-_, _^_, min}
 use mathlib.Core.Bool.{Bool, not, cond, _&&_, _||_}
 use mathlib.Core.List.{List, [], _∷_, _++_}
-use lib.Dec.{eqb, leb}
+use lib.Dec.{eqb, leb, ltb}
 use mir.Val.{boolByte}
 use Rattle.u256.specs.declared.U256.{U256}
 use Rattle.u256.specs.U256.{valueOf}
+use Rattle.u256.specs.Word.{wrappingDifference}
 use Rattle.frame.specs.declared.Frame.{Frame}
+use Rattle.frame.specs.Kernel.{kernelMode}
 use Rattle.frame.specs.Refusal.{Check, firstOf, _refuses_}
 use Rattle.frame.specs.Row.{frameOf, goodRow}
 use Rattle.frame.specs.Store.{rowAt}
+use Rattle.registers.specs.Registers.{registerOf}
 use Rattle.rules.specs.declared.Settings.{Settings}
+use Rattle.rules.specs.declared.Records.{Records}
 use Rattle.rules.specs.declared.Location.{Location}
-use Rattle.rules.specs.Record.{goodRecord}
-use Rattle.rules.specs.Code.{superPc}
+use Rattle.rules.specs.Record.{isNop, goodRecord}
+use Rattle.rules.specs.Code.{superPc, subPc, codeBits}
+use Rattle.rules.specs.Address.{vaddrOf}
 use Rattle.rules.specs.Ret.{pubdataAfter, counterAfter, isOutside, isBadCounter, ergsPast, isShrunk}
 use Rattle.cycle.specs.declared.State.{State}
 use Rattle.cycle.specs.declared.Write.{Write}
@@ -24,8 +29,9 @@ use Rattle.cycle.specs.declared.DecodeAnswer.{DecodeAnswer}
 use Rattle.cycle.specs.declared.OperandsAnswer.{OperandsAnswer}
 use Rattle.cycle.specs.declared.ExecuteAnswer.{ExecuteAnswer}
 use Rattle.cycle.specs.State.{addressed, badStore, outOfTurn, isEnded}
-use Rattle.cycle.specs.Fetch.{codeWanted}
-use Rattle.cycle.specs.Operands.{recordOf, placesIn, operandsRefusal}
+use Rattle.cycle.specs.Fetch.{codeWanted, codeWord, fetchRefusal}
+use Rattle.cycle.specs.Decode.{priceIn, decodeRefusal}
+use Rattle.cycle.specs.Operands.{recordOf, stackPage, operandsRefusal}
 use Rattle.cycle.specs.Helpers.{lateIn, isStored}
 use Rattle.cycle.specs.Arithmetic.{resultIn}
 use Rattle.cycle.specs.Ret.{isOk}
@@ -53,16 +59,35 @@ abbrev pub executeNumber : ExecuteAnswer → ℕ
 executeNumber (ExecuteAnswer.Done write event) = 0
 executeNumber (ExecuteAnswer.Refused n) = n
 
--- ---- what is told, by case: the number of the case, then its values
--- "either no location or a memory kind, page and index": 0 where there is none, else the memory kind, 1 for the stack and 2 for code
+-- ---- what a finished answer tells, by case: the number of the case, then its values; a refusal tells nothing but its number
+-- "64 bits of code, or exception (pending), or nop (ended)": 0, 1 and 2
+abbrev pub fetchCase : FetchAnswer → List ℕ
+fetchCase (FetchAnswer.Code bits) = 0 ∷ bits ∷ []
+fetchCase FetchAnswer.Exception = 1 ∷ []
+fetchCase FetchAnswer.Nop = 2 ∷ []
+fetchCase (FetchAnswer.Refused n) = []
+
+-- "The answer gives the flags and the charge": explicit panic, NOT_ENOUGH_ERGS, kernel only, static, depth equal to limit, then the charge
+abbrev pub decodeCase : DecodeAnswer → List ℕ
+decodeCase (DecodeAnswer.Done errors charge) =
+    boolByte (errors .«invalid_opcode»)
+    ∷ boolByte (errors .«not_enough_ergs»)
+    ∷ boolByte (errors .«privilaged_access_not_from_kernel»)
+    ∷ boolByte (errors .«write_in_static_context»)
+    ∷ boolByte (errors .«callstack_is_full»)
+    ∷ charge
+    ∷ []
+decodeCase (DecodeAnswer.Refused n) = []
+
+-- "either no location or a memory kind, page and index": 0, or 1 and these; memory kinds 1 stack, 2 code
 abbrev pub locationCase : Location → List ℕ
 locationCase Location.None = 0 ∷ []
-locationCase (Location.At kind page index) = kind ∷ page ∷ index ∷ []
+locationCase (Location.At kind page index) = 1 ∷ kind ∷ page ∷ index ∷ []
 
--- "A write carries time plus 3": 0 where nothing is written, else the memory kind; page, index, time, the value and its pointer bit
+-- "A write carries time plus 3": 0 where nothing is written, or 1 and the location, the time, the value and its pointer bit
 abbrev pub writeCase : Write → List ℕ
 writeCase Write.None = 0 ∷ []
-writeCase (Write.At kind page index time written) = kind ∷ page ∷ index ∷ time ∷ valueOf (written .value) ∷ boolByte (written .«is_pointer») ∷ []
+writeCase (Write.At kind page index time written) = 1 ∷ kind ∷ page ∷ index ∷ time ∷ valueOf (written .value) ∷ boolByte (written .«is_pointer») ∷ []
 
 -- "Events: frame opened, frame closed with its panicked bit": 1 and 2, 0 where there is none
 abbrev pub eventCase : Event → List ℕ
@@ -70,22 +95,70 @@ eventCase Event.None = 0 ∷ []
 eventCase Event.Opened = 1 ∷ []
 eventCase (Event.Closed panicked) = 2 ∷ boolByte panicked ∷ []
 
--- of operands the source and the destination, of execute the write and the event; a refusal tells nothing but its number
-abbrev pub operandsTold : OperandsAnswer → List (List ℕ)
-operandsTold (OperandsAnswer.Done source destination) = locationCase source ∷ locationCase destination ∷ []
-operandsTold (OperandsAnswer.Refused n) = []
+-- the source and the destination
+abbrev pub operandsCase : OperandsAnswer → List (List ℕ)
+operandsCase (OperandsAnswer.Done source destination) = locationCase source ∷ locationCase destination ∷ []
+operandsCase (OperandsAnswer.Refused n) = []
 
-abbrev pub executeTold : ExecuteAnswer → List (List ℕ)
-executeTold (ExecuteAnswer.Done write event) = writeCase write ∷ eventCase event ∷ []
-executeTold (ExecuteAnswer.Refused n) = []
+-- the write and the event
+abbrev pub executeCase : ExecuteAnswer → List (List ℕ)
+executeCase (ExecuteAnswer.Done write event) = writeCase write ∷ eventCase event ∷ []
+executeCase (ExecuteAnswer.Refused n) = []
 
--- what the query for a code read is to tell: memory kind 2, "from which page and index"
+-- ---- what the query, fetch and decode are to tell
+-- "whether a code read is wanted, and from which page and index"
 abbrev pub queryTells : State → List ℕ
-queryTells s = cond (codeWanted s) (2 ∷ s .current .«code_page» ∷ superPc (s .current .pc) ∷ []) (0 ∷ [])
+queryTells s = cond (codeWanted s) (1 ∷ 2 ∷ s .current .«code_page» ∷ superPc (s .current .pc) ∷ []) (0 ∷ [])
+
+abbrev pub fetchTells : Settings → U256 → State → List ℕ → List ℕ
+fetchTells settings word s store =
+    cond (eqb (fetchRefusal settings s store) 0)
+    (cond (isEnded s) (2 ∷ []) (cond (s .«pending_exception») (1 ∷ []) (0 ∷ codeBits (codeWord s word) (subPc (s .current .pc)) ∷ [])))
+    []
+
+-- "Price above ergs", "explicit panic, kernel only, static, depth equal to limit"; "A charge is the smaller of the price and the ergs held."
+abbrev pub decodeTells : Settings → Records → State → List ℕ → List ℕ
+decodeTells settings records s store =
+    cond (eqb (decodeRefusal settings records s store) 0)
+    (boolByte (records .plain .«explicit_panic»)
+    ∷ boolByte (ltb (s .current .«ergs_remaining») (priceIn records s))
+    ∷ boolByte (records .plain .«kernel_only» && not (kernelMode (s .current)))
+    ∷ boolByte (not (records .plain .«allowed_when_static») && s .current .«is_static»)
+    ∷ boolByte (eqb (s .depth) (settings .«depth_limit»))
+    ∷ min (priceIn records s) (s .current .«ergs_remaining»)
+    ∷ [])
+    []
+
+-- ---- what operands is to tell
+-- "vaddr is the low 16 bits of the register plus the immediate, modulo 65,536", of the source and of the destination
+abbrev pub sourceVaddr : State → ℕ
+sourceVaddr s = vaddrOf 16 (registerOf (s .registers) (recordOf s .src0)) (recordOf s .«imm_0»)
+
+abbrev pub destinationVaddr : State → ℕ
+destinationVaddr s = vaddrOf 16 (registerOf (s .registers) (recordOf s .dst0)) (recordOf s .«imm_1»)
+
+-- sp after the source, which a pop alone moves
+abbrev pub spAfterSource : State → ℕ
+spAfterSource s = cond (eqb (recordOf s .«source_kind») 2) (wrappingDifference 16 (s .current .sp) (sourceVaddr s)) (s .current .sp)
+
+-- "Nop reads nothing". Kinds 2 push/pop and 3 stack offset lie at sp minus vaddr, 4 code page and 5 absolute stack at vaddr.
+abbrev pub sourceTells : State → List ℕ
+sourceTells s =
+    cond (isNop (recordOf s)) (0 ∷ [])
+    (cond (eqb (recordOf s .«source_kind») 2 || eqb (recordOf s .«source_kind») 3)
+    (1 ∷ 1 ∷ stackPage s ∷ wrappingDifference 16 (s .current .sp) (sourceVaddr s) ∷ [])
+    (cond (eqb (recordOf s .«source_kind») 4) (1 ∷ 2 ∷ s .current .«code_page» ∷ sourceVaddr s ∷ [])
+    (cond (eqb (recordOf s .«source_kind») 5) (1 ∷ 1 ∷ stackPage s ∷ sourceVaddr s ∷ []) (0 ∷ []))))
+
+-- "destination on the changed sp": a push "writes at the old sp", the others as a source
+abbrev pub destinationTells : State → List ℕ
+destinationTells s =
+    cond (eqb (recordOf s .«destination_kind») 2) (1 ∷ 1 ∷ stackPage s ∷ spAfterSource s ∷ [])
+    (cond (eqb (recordOf s .«destination_kind») 3) (1 ∷ 1 ∷ stackPage s ∷ wrappingDifference 16 (spAfterSource s) (destinationVaddr s) ∷ [])
+    (cond (eqb (recordOf s .«destination_kind») 5) (1 ∷ 1 ∷ stackPage s ∷ destinationVaddr s ∷ []) (0 ∷ [])))
 
 abbrev pub operandsTells : Settings → State → List ℕ → List (List ℕ)
-operandsTells settings s store =
-    cond (eqb (operandsRefusal settings s store) 0) (locationCase (placesIn 16 s .source) ∷ locationCase (placesIn 16 s .destination) ∷ []) []
+operandsTells settings s store = cond (eqb (operandsRefusal settings s store) 0) (sourceTells s ∷ destinationTells s ∷ []) []
 
 -- ---- the refusals of execute
 -- operations 1 add and 2 sub, 3 near call, 4 return

@@ -29,8 +29,8 @@ errorsOf settings records s = errorFlags (s .current) (s .depth) (settings .«de
 abbrev pub priceIn : Records → State → ℕ
 priceIn records s = priceOf (isEnded s) (records .plain .price)
 
-abbrev pub chargeOf : Records → State → ℕ
-chargeOf records s = min (priceIn records s) (s .current .«ergs_remaining»)
+abbrev pub chargeIn : Records → State → ℕ
+chargeIn records s = min (priceIn records s) (s .current .«ergs_remaining»)
 
 -- the record that is kept
 abbrev pub keptOf : Settings → Records → State → Record
@@ -70,7 +70,7 @@ decodedState s ergs instruction = record {
 unfoldable pub decodeDone : Settings → Records → State → Decoded
 decodeDone settings records s = record {
   state = decodedState s (s .current .«ergs_remaining» - priceIn records s) (keptOf settings records s);
-  answer = DecodeAnswer.Done (errorsOf settings records s) (chargeOf records s);
+  answer = DecodeAnswer.Done (errorsOf settings records s) (chargeIn records s);
 }
 
 unfoldable pub decodeOf : Settings → Records → State → List ℕ → Decoded

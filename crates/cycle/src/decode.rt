@@ -3,7 +3,7 @@ ghost use mathlib.Core.Path.{_≡_};
 ghost use mathlib.Core.Bool.{cond};
 ghost use Rattle.rules.specs.Code.{superPc};
 ghost use Rattle.cycle.specs.Decode.{decodedState, decodeRefusal, decodeOf};
-ghost use Rattle.cycle.specs.Answers.{decodeNumber};
+ghost use Rattle.cycle.specs.Answers.{decodeNumber, decodeCase, decodeTells};
 use crate::DecodeAnswer;
 use crate::Decoded;
 use crate::Kept;
@@ -56,7 +56,8 @@ impl State {
 
     pub fn decode(self, settings: Settings, store: &[u32], records: Records) -> Decoded
         ensures { λ r. ⌜ (r ≡ decodeOf settings records self (now (store .entry)))
-            × (decodeNumber (r .answer) ≡ decodeRefusal settings records self (now (store .entry))) ⌝ }
+            × (decodeNumber (r .answer) ≡ decodeRefusal settings records self (now (store .entry)))
+            × (decodeCase (r .answer) ≡ decodeTells settings records self (now (store .entry))) ⌝ }
     {
         let plain = records.plain;
         let panic = records.panic;

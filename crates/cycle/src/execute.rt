@@ -2,7 +2,7 @@
 ghost use mathlib.Core.Path.{_≡_};
 ghost use Rattle.frame.specs.Refusal.{firstOf};
 ghost use Rattle.cycle.specs.Execute.{executeRefusal, executeOf, executeStore};
-ghost use Rattle.cycle.specs.Answers.{executeNumber, executeChecks, executeTold, executeTells};
+ghost use Rattle.cycle.specs.Answers.{executeNumber, executeChecks, executeCase, executeTells};
 use crate::Executed;
 use crate::State;
 use rules::Settings;
@@ -42,7 +42,7 @@ impl State {
         ensures { λ r. ⌜ (r ≡ executeOf settings word pointer self (now (store .entry)))
             × (now (store .exit) ≡ executeStore settings word pointer self (now (store .entry)))
             × (executeNumber (r .answer) ≡ firstOf (executeChecks settings word pointer self (now (store .entry))))
-            × (executeTold (r .answer) ≡ executeTells settings word pointer self (now (store .entry))) ⌝ }
+            × (executeCase (r .answer) ≡ executeTells settings word pointer self (now (store .entry))) ⌝ }
     {
         let kept = self.kept;
         let instruction = kept.instruction;

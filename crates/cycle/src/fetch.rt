@@ -1,7 +1,7 @@
 // The code query and fetch, from the Rust's `cycle.rs`.
 ghost use mathlib.Core.Path.{_≡_};
 ghost use Rattle.cycle.specs.Fetch.{queryOf, locationIf, fetchedState, codeAnswer, fetchRefusal, fetchOf};
-ghost use Rattle.cycle.specs.Answers.{fetchNumber, locationCase, queryTells};
+ghost use Rattle.cycle.specs.Answers.{fetchNumber, fetchCase, locationCase, queryTells, fetchTells};
 use crate::FetchAnswer;
 use crate::Fetched;
 use crate::State;
@@ -65,7 +65,9 @@ impl State {
 
     // The word is the one that the query asked for, and is not looked at where it asked for none.
     pub fn fetch(self, settings: Settings, store: &[u32], word: U256) -> Fetched
-        ensures { λ r. ⌜ (r ≡ fetchOf settings word self (now (store .entry))) × (fetchNumber (r .answer) ≡ fetchRefusal settings self (now (store .entry))) ⌝ }
+        ensures { λ r. ⌜ (r ≡ fetchOf settings word self (now (store .entry)))
+            × (fetchNumber (r .answer) ≡ fetchRefusal settings self (now (store .entry)))
+            × (fetchCase (r .answer) ≡ fetchTells settings word self (now (store .entry))) ⌝ }
     {
         let ended = self.depth == 0;
         let pending = self.pending_exception;

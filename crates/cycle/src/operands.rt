@@ -1,7 +1,7 @@
 // Operands, from the Rust's `compute_addresses_and_select_operands`.
 ghost use mathlib.Core.Path.{_≡_};
 ghost use Rattle.cycle.specs.Operands.{addressedState, operandsRefusal, operandsOf};
-ghost use Rattle.cycle.specs.Answers.{operandsNumber, operandsTold, operandsTells};
+ghost use Rattle.cycle.specs.Answers.{operandsNumber, operandsCase, operandsTells};
 use crate::Addressed;
 use crate::Kept;
 use crate::OperandsAnswer;
@@ -28,7 +28,7 @@ impl State {
     pub fn operands(self, settings: Settings, store: &[u32]) -> Addressed
         ensures { λ r. ⌜ (r ≡ operandsOf settings self (now (store .entry)))
             × (operandsNumber (r .answer) ≡ operandsRefusal settings self (now (store .entry)))
-            × (operandsTold (r .answer) ≡ operandsTells settings self (now (store .entry))) ⌝ }
+            × (operandsCase (r .answer) ≡ operandsTells settings self (now (store .entry))) ⌝ }
     {
         let kept = self.kept;
         let instruction = kept.instruction;
