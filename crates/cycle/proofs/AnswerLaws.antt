@@ -41,8 +41,9 @@ use Rattle.cycle.specs.Ret.{isOk, closeRefusalIn, closeDone, closeOf, re
 use Rattle.cycle.specs.Arithmetic.{arithmeticRefusalIn, resultIn, arithmeticDone, arithmeticOf}
 use Rattle.cycle.specs.Execute.{sourcesIn, pointerIn, wantIn, executeDone, executeOf, executeStore}
 use Rattle.cycle.specs.Answers.{fetchNumber, decodeNumber, operandsNumber, executeNumber}
-use Rattle.cycle.specs.Answers.{fetchCase, decodeCase, locationCase, writeCase, operandsCase, executeCase, queryTells, fetchTells, decodeTells, sourceVaddr, destinationVaddr, spAfterSource, sourceTells, destinationTells, operandsTells}
-use Rattle.cycle.specs.Answers.{topRow, topFrame, badPubdata, badReverts, lateWrite, executeChecks, writeTells, eventTells, executeTells}
+use Rattle.cycle.specs.Answers.{fetchCase, decodeCase, locationCase, writeCase, operandsCase, executeCase}
+use Rattle.cycle.specs.Answers.{topRow, topFrame, badPubdata, badReverts, lateWrite, executeChecks}
+use Rattle.cycle.specs.Tells.{queryTells, fetchTells, decodeTells, sourceVaddr, destinationVaddr, spAfterSource, sourceTells, destinationTells, operandsTells, writeTells, eventTells, executeTells}
 use Rattle.cycle.proofs.HelperLaws.{or-parts}
 
 -- what is settled by a number has that number

@@ -9,3 +9,4 @@ pub mod Ret
 pub mod Arithmetic
 pub mod Execute
 pub mod Answers
+pub mod Tells

@@ -2,7 +2,8 @@
 ghost use mathlib.Core.Path.{_≡_};
 ghost use Rattle.frame.specs.Refusal.{firstOf};
 ghost use Rattle.cycle.specs.Execute.{executeRefusal, executeOf, executeStore};
-ghost use Rattle.cycle.specs.Answers.{executeNumber, executeChecks, executeCase, executeTells};
+ghost use Rattle.cycle.specs.Answers.{executeNumber, executeChecks, executeCase};
+ghost use Rattle.cycle.specs.Tells.{executeTells};
 use crate::Executed;
 use crate::State;
 use rules::Settings;

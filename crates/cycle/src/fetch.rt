@@ -1,7 +1,8 @@
 // The code query and fetch, from the Rust's `cycle.rs`.
 ghost use mathlib.Core.Path.{_≡_};
 ghost use Rattle.cycle.specs.Fetch.{queryOf, locationIf, fetchedState, codeAnswer, fetchRefusal, fetchOf};
-ghost use Rattle.cycle.specs.Answers.{fetchNumber, fetchCase, locationCase, queryTells, fetchTells};
+ghost use Rattle.cycle.specs.Answers.{fetchNumber, fetchCase, locationCase};
+ghost use Rattle.cycle.specs.Tells.{queryTells, fetchTells};
 use crate::FetchAnswer;
 use crate::Fetched;
 use crate::State;

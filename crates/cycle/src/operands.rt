@@ -1,7 +1,8 @@
 // Operands, from the Rust's `compute_addresses_and_select_operands`.
 ghost use mathlib.Core.Path.{_≡_};
 ghost use Rattle.cycle.specs.Operands.{addressedState, operandsRefusal, operandsOf};
-ghost use Rattle.cycle.specs.Answers.{operandsNumber, operandsCase, operandsTells};
+ghost use Rattle.cycle.specs.Answers.{operandsNumber, operandsCase};
+ghost use Rattle.cycle.specs.Tells.{operandsTells};
 use crate::Addressed;
 use crate::Kept;
 use crate::OperandsAnswer;
