@@ -1,4 +1,4 @@
-//! What is left out of the domain, and refused.
+//! What is left out of the domain.
 
 use super::panics::alone_each;
 use super::row::*;
