@@ -11,7 +11,11 @@ first-refusal-requires : tie.Need-first-refusal-requires
 first-refusal-requires c κs = search needs
 
 returns : tie.Need-returns
-returns c = answers.fetch-numbered _ _ _ _ _ (search laws.refused)
+returns c =
+    let p1 = c .before in
+    let p3 = p1 .before .before in
+    let a = p3 .before .before .before .args in
+    answers.fetch-numbered _ _ _ _ _ (laws.refused (a .settings) (a .word) (a .self) (a .store .now) _ (p3 .bad-sizes .ensures) _ (p1 .first-refusal .ensures) (c .if1 .taken))
 
 super-pc-requires : tie.Need-super-pc-requires
 super-pc-requires c κs = search needs
