@@ -12,11 +12,11 @@ enum-told c = search needs
 returns : tie.Need-returns
 returns c = search needs
 
-add-t7 : tie.Need-add-t7
-add-t7 c = search laws.write-fits
-
 returns-2 : tie.Need-returns-2
 returns-2 c = search laws.write-at
+
+add-t7 : tie.Need-add-t7
+add-t7 c = search laws.write-fits
 
 pub write-of-spec : {M : Type 1} → statement M
 write-of-spec = tie.close (tie.spec enum-known-location enum-told returns add-t7 returns-2)

@@ -7,7 +7,7 @@ returns : tie.Need-returns
 returns c = search needs
 
 returns-2 : tie.Need-returns-2
-returns-2 c = rw (c .before .if1 .left, eq-eqb _ _ (c .if2 .taken))
+returns-2 c = rw (c .before .if1 .left, eq-eqb _ 0 (c .if2 .taken))
 
 returns-3 : tie.Need-returns-3
 returns-3 c = rw (c .before .if1 .left, ne-eqb _ _ (c .if2 .left))
