@@ -135,14 +135,14 @@ destination-told false true k5 page sp back at = refl
 destination-told false false true page sp back at = refl
 destination-told false false false page sp back at = refl
 
-places-told : (s : State) → locationCase (placesIn 16 s .source) ∷ locationCase (placesIn 16 s .destination) ∷ [] ≡ sourceTells s ∷ destinationTells s ∷ []
+places-told : (w : ℕ) (s : State) → locationCase (placesIn w s .source) ∷ locationCase (placesIn w s .destination) ∷ [] ≡ sourceTells w s ∷ destinationTells w s ∷ []
 unfolding placesOf sourceAt destinationAt
-places-told s =
+places-told w s =
     ap₂ (λ (a b : List ℕ). a ∷ b ∷ [])
     (source-told (isNop (recordOf s)) (eqb (recordOf s .«source_kind») 2) (eqb (recordOf s .«source_kind») 3) (eqb (recordOf s .«source_kind») 4)
-    (eqb (recordOf s .«source_kind») 5) (stackPage s) (s .current .«code_page») (wrappingDifference 16 (s .current .sp) (sourceVaddr s)) (sourceVaddr s))
+    (eqb (recordOf s .«source_kind») 5) (stackPage s) (s .current .«code_page») (wrappingDifference w (s .current .sp) (sourceVaddr w s)) (sourceVaddr w s))
     (destination-told (eqb (recordOf s .«destination_kind») 2) (eqb (recordOf s .«destination_kind») 3) (eqb (recordOf s .«destination_kind») 5)
-    (stackPage s) (spAfterSource s) (wrappingDifference 16 (spAfterSource s) (destinationVaddr s)) (destinationVaddr s))
+    (stackPage s) (spAfterSource w s) (wrappingDifference w (spAfterSource w s) (destinationVaddr w s)) (destinationVaddr w s))
 
 pub operands-numbered : (settings : Settings) (s : State) (store : List ℕ) (r : Addressed) → r ≡ operandsOf settings s store
     → (r ≡ operandsOf settings s store)
@@ -154,7 +154,7 @@ operands-numbered settings s store r e = (
   ap (λ (a : Addressed). operandsNumber (a .answer)) e
       ∙ settled-number (λ (a : Addressed). operandsNumber (a .answer)) n refused (operandsDone 16 s) refl refl,
   ap (λ (a : Addressed). operandsCase (a .answer)) e
-      ∙ settled-told (λ (a : Addressed). operandsCase (a .answer)) n refused (operandsDone 16 s) _ refl (places-told s),
+      ∙ settled-told (λ (a : Addressed). operandsCase (a .answer)) n refused (operandsDone 16 s) _ refl (places-told 16 s),
 )
   where
     n : ℕ

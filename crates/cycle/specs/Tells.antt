@@ -51,36 +51,36 @@ decodeTells settings records s store =
     ∷ [])
     []
 
--- ---- what operands is to tell
+-- ---- what operands is to tell, at the width w of sp and immediates
 -- "vaddr is the low 16 bits of the register plus the immediate, modulo 65,536", of the source and of the destination
-abbrev pub sourceVaddr : State → ℕ
-sourceVaddr s = vaddrOf 16 (registerOf (s .registers) (recordOf s .src0)) (recordOf s .«imm_0»)
+abbrev pub sourceVaddr : ℕ → State → ℕ
+sourceVaddr w s = vaddrOf w (registerOf (s .registers) (recordOf s .src0)) (recordOf s .«imm_0»)
 
-abbrev pub destinationVaddr : State → ℕ
-destinationVaddr s = vaddrOf 16 (registerOf (s .registers) (recordOf s .dst0)) (recordOf s .«imm_1»)
+abbrev pub destinationVaddr : ℕ → State → ℕ
+destinationVaddr w s = vaddrOf w (registerOf (s .registers) (recordOf s .dst0)) (recordOf s .«imm_1»)
 
 -- sp after the source, which a pop alone moves
-abbrev pub spAfterSource : State → ℕ
-spAfterSource s = cond (eqb (recordOf s .«source_kind») 2) (wrappingDifference 16 (s .current .sp) (sourceVaddr s)) (s .current .sp)
+abbrev pub spAfterSource : ℕ → State → ℕ
+spAfterSource w s = cond (eqb (recordOf s .«source_kind») 2) (wrappingDifference w (s .current .sp) (sourceVaddr w s)) (s .current .sp)
 
 -- "Nop reads nothing". Kinds 2 push/pop and 3 stack offset lie at sp minus vaddr, 4 code page and 5 absolute stack at vaddr.
-abbrev pub sourceTells : State → List ℕ
-sourceTells s =
+abbrev pub sourceTells : ℕ → State → List ℕ
+sourceTells w s =
     cond (isNop (recordOf s)) (0 ∷ [])
     (cond (eqb (recordOf s .«source_kind») 2 || eqb (recordOf s .«source_kind») 3)
-    (1 ∷ 1 ∷ stackPage s ∷ wrappingDifference 16 (s .current .sp) (sourceVaddr s) ∷ [])
-    (cond (eqb (recordOf s .«source_kind») 4) (1 ∷ 2 ∷ s .current .«code_page» ∷ sourceVaddr s ∷ [])
-    (cond (eqb (recordOf s .«source_kind») 5) (1 ∷ 1 ∷ stackPage s ∷ sourceVaddr s ∷ []) (0 ∷ []))))
+    (1 ∷ 1 ∷ stackPage s ∷ wrappingDifference w (s .current .sp) (sourceVaddr w s) ∷ [])
+    (cond (eqb (recordOf s .«source_kind») 4) (1 ∷ 2 ∷ s .current .«code_page» ∷ sourceVaddr w s ∷ [])
+    (cond (eqb (recordOf s .«source_kind») 5) (1 ∷ 1 ∷ stackPage s ∷ sourceVaddr w s ∷ []) (0 ∷ []))))
 
 -- "destination on the changed sp": a push "writes at the old sp", the others as a source
-abbrev pub destinationTells : State → List ℕ
-destinationTells s =
-    cond (eqb (recordOf s .«destination_kind») 2) (1 ∷ 1 ∷ stackPage s ∷ spAfterSource s ∷ [])
-    (cond (eqb (recordOf s .«destination_kind») 3) (1 ∷ 1 ∷ stackPage s ∷ wrappingDifference 16 (spAfterSource s) (destinationVaddr s) ∷ [])
-    (cond (eqb (recordOf s .«destination_kind») 5) (1 ∷ 1 ∷ stackPage s ∷ destinationVaddr s ∷ []) (0 ∷ [])))
+abbrev pub destinationTells : ℕ → State → List ℕ
+destinationTells w s =
+    cond (eqb (recordOf s .«destination_kind») 2) (1 ∷ 1 ∷ stackPage s ∷ spAfterSource w s ∷ [])
+    (cond (eqb (recordOf s .«destination_kind») 3) (1 ∷ 1 ∷ stackPage s ∷ wrappingDifference w (spAfterSource w s) (destinationVaddr w s) ∷ [])
+    (cond (eqb (recordOf s .«destination_kind») 5) (1 ∷ 1 ∷ stackPage s ∷ destinationVaddr w s ∷ []) (0 ∷ [])))
 
 abbrev pub operandsTells : Settings → State → List ℕ → List (List ℕ)
-operandsTells settings s store = cond (eqb (operandsRefusal settings s store) 0) (sourceTells s ∷ destinationTells s ∷ []) []
+operandsTells settings s store = cond (eqb (operandsRefusal settings s store) 0) (sourceTells 16 s ∷ destinationTells 16 s ∷ []) []
 
 -- ---- what execute is to tell
 -- add and sub write their result where a location is kept, with the pointer bit off
