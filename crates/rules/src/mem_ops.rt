@@ -26,8 +26,11 @@ pub fn is_stack_kind(kind: u8) -> bool
 pub fn lacks_stack_page(r: Record, base: u32) -> bool
     ensures { λ b. ⌜ b ≡ lacksStackPage r base ⌝ }
 {
-    (is_stack_kind(r.source_kind) | is_stack_kind(r.destination_kind))
-        & (0xffff_ffff < (base as u64) + 1)
+    // The page first: it decides for every record but those on the last base page.
+    if base < 0xffff_ffff {
+        return false;
+    }
+    is_stack_kind(r.source_kind) | is_stack_kind(r.destination_kind)
 }
 
 fn at(memory_type: u8, page: u32, index: u16) -> Location
