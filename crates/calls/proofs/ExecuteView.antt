@@ -9,7 +9,7 @@ use native.Mathlib.Numerals.{add-one}
 use lib.Dec.{T, eqb, leb, ltb}
 use lib.ListN.{length}
 use mir.Val.{boolByte}
-use borrow.Author.Tests.{eqb-true, eqb-false, ltb-false, leb-true, not-false}
+use borrow.Author.Tests.{eqb-true, eqb-false, ltb-false, not-false}
 use Rattle.u256.specs.declared.U256.{U256}
 use Rattle.frame.specs.declared.Frame.{Frame}
 use Rattle.frame.specs.declared.ReadAnswer.{ReadAnswer}
@@ -21,6 +21,7 @@ use Rattle.frame.specs.Store.{wholeRows, rowAt, savedStore, readOf}
 use Rattle.frame.proofs.StoreLaws.{saved-row, saved-below}
 use Rattle.rules.specs.declared.Settings.{Settings}
 use Rattle.rules.specs.Record.{goodRecord}
+use Rattle.rules.proofs.RecordLaws.{good-operation}
 use Rattle.rules.specs.Sources.{pointerRefused}
 use Rattle.rules.specs.NearCall.{wantedErgs, passedErgs, callerOf, openedOf}
 use Rattle.rules.specs.Ret.{pubdataAfter, counterAfter, isOutside, isBadCounter, ergsPast, isShrunk, resumedWith, resumedOf}
@@ -203,11 +204,6 @@ module _ (x : ExecuteInput) (s : State) (store : List ℕ) (at : stageOf (s .sta
       checks : List Check
       checks = (not (s .current .«is_local_frame») refuses 7) ∷ (eqb (s .depth) 0 refuses 8) ∷ []
 
--- ---- the choice of the operation
-first : (a b c d e f g h i j : Bool) → (a && b && c && d && e && f && g && h && i && j) ≡ true → a ≡ true
-first true b c d e f g h i j q = refl
-first false b c d e f g h i j q = q
-
 -- the kind of each operation that is not refused
 nop-kind : (o : ℕ) → eqb o 0 ≡ true → operationOf o ≡ machines.neither
 nop-kind o e = ap operationOf (eqb-true o 0 e)
@@ -258,7 +254,7 @@ execute-view x s store =
     (cond (eqb o 3) (nearCallStore (x .settings) (wantIn (x .word) (x .pointer) s) s store) store) store
     (λ t.
     let c = clear checks tt (eqb-true n 0 t) in
-    chosen (turn (s .stage) 3 (c .1 .0)) (c .0) (small (not-false (goodRecord (recordOf s)) (c .1 .1 .0))) (c .1 .1 .1 .0) (eqb o 0) (eqb o 1 || eqb o 2) (eqb o 3) refl refl
+    chosen (turn (s .stage) 3 (c .1 .0)) (c .0) (good-operation (recordOf s) (not-false (goodRecord (recordOf s)) (c .1 .1 .0))) (c .1 .1 .1 .0) (eqb o 0) (eqb o 1 || eqb o 2) (eqb o 3) refl refl
     refl)
     (λ f.
     refused
@@ -290,13 +286,6 @@ execute-view x s store =
         View executeNumbers s store (record { refusal = executeRefused (r .answer); state = r .state; store = after })
         (Advances core (execute x) s (record { refusal = executeRefused (r .answer); state = r .state; store = after })
         × Performs core (core .kept s) x s store (record { refusal = executeRefused (r .answer); state = r .state; store = after }))
-
-    small : goodRecord (recordOf s) ≡ true → o ≤ 5
-    small g =
-        let r = recordOf s in
-        leb-true o 5
-        (first (leb (r .operation) 5) (leb (r .«return_kind») 2) (leb (r .condition) 7) (leb (r .«source_kind») 5) (leb (r .«destination_kind») 5)
-        (not (eqb (r .«destination_kind») 1)) (not (eqb (r .«destination_kind») 4)) (leb (r .src0) 15) (leb (r .src1) 15) (leb (r .dst0) 15) g)
 
     a : U256
     a = sourcesIn (x .word) (x .pointer) s .src0 .value

@@ -1,11 +1,11 @@
 -- Where operands gave no source location, execute does not look at the word; where the query wanted none, fetch does not. Assumes nothing.
 use Prim.Native.Nat.{ℕ, zero, suc, _≤_}
-use mathlib.Core.Bool.{Bool, true, false, not, cond, _&&_}
-use mathlib.Core.Path.{_≡_, refl, ap, sym, subst}
+use mathlib.Core.Bool.{Bool, true, false, not, cond}
+use mathlib.Core.Path.{_≡_, refl, ap, subst}
 use mathlib.Core.List.{List, [], _∷_}
 use native.Mathlib.Omega.{arith}
-use lib.Dec.{T, eqb, leb}
-use borrow.Author.Tests.{leb-true, not-false}
+use lib.Dec.{T, eqb}
+use borrow.Author.Tests.{not-false}
 use Rattle.u256.specs.declared.U256.{U256}
 use Rattle.frame.specs.Refusal.{Check, _refuses_}
 use Rattle.rules.specs.declared.Settings.{Settings}
@@ -14,6 +14,7 @@ use Rattle.rules.specs.declared.Location.{Location}
 use Rattle.rules.specs.declared.PrimitiveValue.{PrimitiveValue}
 use Rattle.rules.specs.declared.Sources.{Sources}
 use Rattle.rules.specs.Record.{goodRecord, isNop}
+use Rattle.rules.proofs.RecordLaws.{good-source}
 use Rattle.rules.specs.Address.{lacksStackPage, sourceRead, sourceAt, placesOf}
 use Rattle.rules.specs.Sources.{registerValue, sourcesOf}
 use Rattle.rules.proofs.RefusalLaws.{clear}
@@ -43,23 +44,12 @@ module _ (w stack code sp vaddr : ℕ) (register immediate empty read other : Pr
   no-word false (suc (suc (suc (suc (suc zero))))) l e = cc
   no-word false (suc (suc (suc (suc (suc (suc kind)))))) l e = absurd (omega arith)
 
--- the source kind of a good record
-small : (r : Record) → goodRecord r ≡ true → r .«source_kind» ≤ 5
-small r =
-    fourth (leb (r .operation) 5 && leb (r .«return_kind») 2 && leb (r .condition) 7) (leb (r .«source_kind») 5) (leb (r .«destination_kind») 5)
-    (not (eqb (r .«destination_kind») 1)) (not (eqb (r .«destination_kind») 4)) (leb (r .src0) 15) (leb (r .src1) 15) (leb (r .dst0) 15) refl
-  where
-    fourth : (abc d e f g h i j : Bool) → leb (r .«source_kind») 5 ≡ d → (abc && d && e && f && g && h && i && j) ≡ true → r .«source_kind» ≤ 5
-    fourth true true e f g h i j k q = leb-true (r .«source_kind») 5 k
-    fourth true false e f g h i j k q = absurd (subst T (sym q) tt)
-    fourth false d e f g h i j k q = absurd (subst T (sym q) tt)
-
 -- the operands of a good record with no source location
 sources-same : (r : Record) (words : List U256) (pointers : List Bool) (w stack code sp : ℕ) (word other : U256) (pointer bit : Bool) → goodRecord r ≡ true
     → placesOf w r words stack code sp .source ≡ Location.None → sourcesOf r words pointers word pointer ≡ sourcesOf r words pointers other bit
 unfolding placesOf sourcesOf
 sources-same r words pointers w stack code sp word other pointer bit good e =
-    ap pair (no-word w stack code sp _ _ _ _ _ _ (isNop r) (r .«source_kind») (small r good) e)
+    ap pair (no-word w stack code sp _ _ _ _ _ _ (isNop r) (r .«source_kind») (good-source r good) e)
   where
     pair : PrimitiveValue → Sources
     pair v = cond (r .swap) (record { src0 = registerValue words pointers (r .src1); src1 = v }) (record { src0 = v; src1 = registerValue words pointers (r .src1) })

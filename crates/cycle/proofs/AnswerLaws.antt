@@ -4,9 +4,9 @@ use mathlib.Core.Bool.{Bool, true, false, not, cond, _&&_, _||_}
 use mathlib.Core.Path.{_≡_, refl, sym, ap, ap₂, _∙_, subst}
 use mathlib.Core.List.{List, [], _∷_, _++_}
 use native.Mathlib.Omega.{arith}
-use lib.Dec.{T, eqb, leb, ltb}
+use lib.Dec.{T, eqb, ltb}
 use lib.ListN.{length}
-use borrow.Author.Tests.{eqb-true, eqb-false, eq-eqb, lt-ltb, ltb-false, leb-true, not-false}
+use borrow.Author.Tests.{eqb-true, eqb-false, eq-eqb, lt-ltb, ltb-false, not-false}
 use mir.Val.{boolByte}
 use Rattle.u256.specs.declared.U256.{U256}
 use Rattle.u256.specs.U256.{valueOf}
@@ -20,6 +20,7 @@ use Rattle.rules.specs.declared.Records.{Records}
 use Rattle.rules.specs.declared.Location.{Location}
 use Rattle.rules.specs.Charge.{errorFlags}
 use Rattle.rules.specs.Record.{isNop, goodRecord}
+use Rattle.rules.proofs.RecordLaws.{good-operation}
 use Rattle.rules.specs.Address.{onStack, inCode, sourceAt, destinationAt, sourceRead, placesOf}
 use Rattle.rules.specs.Ret.{ergsPast, isShrunk}
 use Rattle.rules.proofs.RefusalLaws.{clear, numbered}
@@ -347,17 +348,6 @@ module _ (settings : Settings) (word : U256) (pointer : Bool) (s : State) (store
       subst (ByTests (nearCallOf settings (wantIn word pointer s) s)) (sym (eqb-true op 3 e3)) (call-answers (wantIn word pointer s))
   chosen sized l e5 false false false e0 e12 e3 = rw (four l e0 e12 e3 e5, e3, e12) (return-answers sized)
 
-  small : goodRecord (recordOf s) ≡ true → op ≤ 5
-  small g =
-      let r = recordOf s in
-      leb-true op 5
-      (left (leb (r .operation) 5) (leb (r .«return_kind») 2) (leb (r .condition) 7) (leb (r .«source_kind») 5) (leb (r .«destination_kind») 5)
-      (not (eqb (r .«destination_kind») 1)) (not (eqb (r .«destination_kind») 4)) (leb (r .src0) 15) (leb (r .src1) 15) (leb (r .dst0) 15) g)
-    where
-      left : (a b c d e f g h i j : Bool) → (a && b && c && d && e && f && g && h && i && j) ≡ true → a ≡ true
-      left true b c d e f g h i j q = refl
-      left false b c d e f g h i j q = q
-
   execute-answers : Answers (executeOf settings word pointer s store) (firstOf (executeChecks settings word pointer s store)) (writeTells word pointer s) (eventTells s)
   unfolding executeOf executeDone
   execute-answers =
@@ -370,7 +360,7 @@ module _ (settings : Settings) (word : U256) (pointer : Bool) (s : State) (store
           (cond z (firstOf (rest (eqb op 4) (eqb op 3) (eqb op 1 || eqb op 2))) (firstOf first)) (writeTells word pointer s) (eventTells s)
       go true e =
           let c = clear first tt (eqb-true (firstOf first) 0 e) in
-          chosen (c .0) (small (not-false (goodRecord (recordOf s)) (c .1 .1 .0))) (c .1 .1 .1 .0) (eqb op 0) (eqb op 1 || eqb op 2) (eqb op 3) refl refl refl
+          chosen (c .0) (good-operation (recordOf s) (not-false (goodRecord (recordOf s)) (c .1 .1 .0))) (c .1 .1 .1 .0) (eqb op 0) (eqb op 1 || eqb op 2) (eqb op 3) refl refl refl
       go false e = refused-answers s (firstOf first) (writeTells word pointer s) (eventTells s) e
 
   pub execute-numbered : (r : Executed) (after : List ℕ)

@@ -1,16 +1,15 @@
 // Records: the lists of their fields, and the choice of the one that is kept.
 ghost use mathlib.Core.Path.{_≡_};
 ghost use mathlib.Core.Bool.{cond};
-ghost use Rattle.rules.specs.Record.{goodRecord, isPanic, isNop, badRecords};
+ghost use Rattle.rules.specs.Record.{goodRest, goodRecord, isPanic, isNop, badRecords};
 use crate::Record;
 use crate::Records;
 
-pub fn good_record(r: Record) -> bool
-    ensures { λ b. ⌜ b ≡ goodRecord r ⌝ }
+// The fields after the return kind.
+fn good_rest(r: Record) -> bool
+    ensures { λ b. ⌜ b ≡ goodRest r ⌝ }
 {
-    (r.operation <= 5)
-        & (r.return_kind <= 2)
-        & (r.condition <= 7)
+    (r.condition <= 7)
         & (r.source_kind <= 5)
         & (r.destination_kind <= 5)
         & !(r.destination_kind == 1)
@@ -18,6 +17,12 @@ pub fn good_record(r: Record) -> bool
         & (r.src0 <= 15)
         & (r.src1 <= 15)
         & (r.dst0 <= 15)
+}
+
+pub fn good_record(r: Record) -> bool
+    ensures { λ b. ⌜ b ≡ goodRecord r ⌝ }
+{
+    (r.operation <= 5) & (r.return_kind <= 2) & good_rest(r)
 }
 
 pub fn is_panic(r: Record) -> bool
@@ -32,7 +37,8 @@ pub fn is_nop(r: Record) -> bool
     r.operation == 0
 }
 
-// Refusal 3 of decode. The last three say whether execution has ended, an exception is pending, and decode sets some flag.
+// Refusal 3 of decode. The last three say whether execution has ended, an exception is pending, and decode sets some flag. What a panic and a nop record are has
+// their operation, and a panic's return kind, in its list.
 pub fn bad_records(r: Records, ended: bool, pending: bool, flagged: bool) -> bool
     ensures { λ b. ⌜ b ≡ badRecords r ended pending flagged ⌝ }
 {
@@ -40,10 +46,11 @@ pub fn bad_records(r: Records, ended: bool, pending: bool, flagged: bool) -> boo
     let panic = r.panic;
     let nop = r.nop;
     !good_record(plain)
-        | !good_record(panic)
-        | !good_record(nop)
         | !is_panic(panic)
+        | !good_rest(panic)
         | !is_nop(nop)
+        | !(nop.return_kind <= 2)
+        | !good_rest(nop)
         | (ended & !(is_nop(plain) & !flagged))
         | (pending & !is_panic(plain))
 }
@@ -79,4 +86,15 @@ pub fn either(first: bool, a: Record, b: Record) -> Record
     ensures { λ r. ⌜ r ≡ cond first a b ⌝ }
 {
     if first { fields(a) } else { fields(b) }
+}
+
+// The record that is kept: where neither mask is called for, one test.
+pub fn masked(flagged: bool, holds: bool, plain: Record, panic: Record, nop: Record) -> Record
+    ensures { λ r. ⌜ r ≡ cond flagged panic (cond holds plain nop) ⌝ }
+{
+    if flagged | !holds {
+        either(flagged, panic, nop)
+    } else {
+        fields(plain)
+    }
 }
