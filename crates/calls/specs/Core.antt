@@ -30,7 +30,7 @@ fetchRefused FetchAnswer.Nop = none
 fetchRefused (FetchAnswer.Refused n) = some n
 
 abbrev pub decodeRefused : DecodeAnswer → Option ℕ
-decodeRefused (DecodeAnswer.Done errors charge) = none
+decodeRefused (DecodeAnswer.Done charge errors) = none
 decodeRefused (DecodeAnswer.Refused n) = some n
 
 abbrev pub operandsRefused : OperandsAnswer → Option ℕ

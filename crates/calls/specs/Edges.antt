@@ -33,7 +33,7 @@ pub record Edge : Type 0 where
 
 -- decode of an add with this price at so many ergs: the ergs left, whether there is a flag, NOT_ENOUGH_ERGS, the charge, the operation and the return kind kept
 abbrev figures : State → DecodeAnswer → List ℕ
-figures s (DecodeAnswer.Done errors charge) =
+figures s (DecodeAnswer.Done charge errors) =
     s .current .«ergs_remaining»
     ∷ boolByte (anyError errors)
     ∷ boolByte (errors .«not_enough_ergs»)

@@ -1,17 +1,19 @@
 -- Fetch: from what its parts give to what it gives. Assumes nothing.
 use Prim.Native.Nat.{ℕ}
-use mathlib.Core.Bool.{Bool, false, not, cond, _&&_}
+use mathlib.Core.Bool.{Bool, true, false, not, cond, _&&_}
 use mathlib.Core.Path.{_≡_}
 use mathlib.Core.List.{List, [], _∷_}
 use lib.Dec.{eqb}
-use borrow.Author.Tests.{eq-eqb, ne-eqb}
+use borrow.Author.Tests.{ne-eqb}
 use Rattle.u256.specs.declared.U256.{U256}
-use Rattle.frame.specs.Refusal.{firstOf, _refuses_}
+use Rattle.frame.specs.Refusal.{Check, _refuses_}
 use Rattle.rules.specs.declared.Settings.{Settings}
 use Rattle.rules.specs.declared.Location.{Location}
 use Rattle.registers.specs.Registers.{emptyWord}
 use Rattle.rules.specs.Code.{superPc, subPc, codeBits}
 use Rattle.rules.specs.Code as code
+use Rattle.rules.proofs.RefusalLaws.{someHolds, firstNumber}
+use Rattle.rules.proofs.RefusalLaws as refusal
 use Rattle.cycle.specs.declared.State.{State}
 use Rattle.cycle.specs.declared.Fetched.{Fetched}
 use Rattle.cycle.specs.declared.FetchAnswer.{FetchAnswer}
@@ -25,13 +27,16 @@ unfolding queryOf
 query s super eu wanted ew r er = rw (er, ew, eu)
 
 module _ (settings : Settings) (word : U256) (s : State) (store : List ℕ)
-    (sizes : Bool) (ez : sizes ≡ badStore settings s store)
-    (n : ℕ) (en : n ≡ firstOf ((sizes refuses 1) ∷ (not (eqb (s .stage) 0) refuses 2) ∷ ((isEnded s && s .«pending_exception») refuses 4) ∷ (false refuses 0) ∷ [])) where
-  pub refused : (n ≡ 0 → ⊥) → _≡_ {A = Fetched} (record { state = s; answer = FetchAnswer.Refused n }) (fetchOf settings word s store)
-  unfolding fetchOf
-  refused t = rw (← ez, ← en, ne-eqb n 0 t)
+    (sizes : Bool) (ez : sizes ≡ badStore settings s store) where
+  abbrev checks : List Check
+  checks = (sizes refuses 1) ∷ (not (eqb (s .stage) 0) refuses 2) ∷ ((isEnded s && s .«pending_exception») refuses 4) ∷ []
 
-  pub done : n ≡ 0
+  pub refused : someHolds checks ≡ true → (n : ℕ) → n ≡ firstNumber checks
+      → _≡_ {A = Fetched} (record { state = s; answer = FetchAnswer.Refused n }) (fetchOf settings word s store)
+  unfolding fetchOf
+  refused t n en = let r = refusal.refused checks tt t n en in rw (← ez, ← r .0, ne-eqb n 0 (r .1))
+
+  pub done : someHolds checks ≡ false
       → (super : ℕ) → super ≡ superPc (s .current .pc)
       → (wanted : Bool) → wanted ≡ code.codeWanted (isEnded s) (s .current .«code_page») (s .«previous_code_memory_page») super (s .«previous_super_pc»)
       → (from : U256) → from ≡ cond wanted word (s .«previous_code_word»)
@@ -44,4 +49,4 @@ module _ (settings : Settings) (word : U256) (s : State) (store : List ℕ)
       → _≡_ {A = Fetched} (record { state = next; answer = answer }) (fetchOf settings word s store)
   unfolding fetchOf fetchDone
   done z super eu wanted ew from ef sub es bits eb none eo read er next ex answer ea =
-      rw (← ez, ← en, eq-eqb n 0 z, ea, ex, er, eo, eb, es, ef, ew, eu)
+      rw (← ez, refusal.passed checks z, ea, ex, er, eo, eb, es, ef, ew, eu)

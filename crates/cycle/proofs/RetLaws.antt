@@ -1,20 +1,21 @@
 -- Return: from what its parts give to what it gives. Assumes nothing.
 use Prim.Native.Nat.{ℕ, _+_, _-_, _^_, _<_}
-use mathlib.Core.Bool.{Bool, false, not}
+use mathlib.Core.Bool.{Bool, true, false, not}
 use mathlib.Core.Path.{_≡_, sym, _∙_}
 use mathlib.Core.List.{List, [], _∷_}
 use lib.Dec.{eqb}
-use borrow.Author.Tests.{eq-eqb, ne-eqb, leb-false}
+use borrow.Author.Tests.{ne-eqb, leb-false}
 use Rattle.signed.specs.declared.Checked.{Checked}
 use Rattle.frame.specs.declared.Frame.{Frame}
 use Rattle.frame.specs.declared.PubdataCost.{PubdataCost}
 use Rattle.frame.specs.declared.ReadAnswer.{ReadAnswer}
-use Rattle.frame.specs.Refusal.{_refuses_}
+use Rattle.frame.specs.Refusal.{Check, firstOf, _refuses_}
 use Rattle.frame.specs.Store.{readOf}
 use Rattle.rules.specs.declared.Settings.{Settings}
 use Rattle.rules.specs.declared.Flags.{Flags}
-use Rattle.rules.specs.Ret.{pubdataAfter, counterAfter, isOutside, isBadCounter, ergsPast, isShrunk, costOf, closeRefusal, resumedOf}
-use Rattle.rules.proofs.RefusalLaws.{clear}
+use Rattle.rules.specs.Ret.{pubdataAfter, counterAfter, isOutside, isBadCounter, ergsPast, isShrunk, costOf, returnPc, resumedWith, resumedOf}
+use Rattle.rules.proofs.RefusalLaws.{someHolds, firstNumber}
+use Rattle.rules.proofs.RefusalLaws as refusal
 use Rattle.cycle.specs.declared.State.{State}
 use Rattle.cycle.specs.declared.Write.{Write}
 use Rattle.cycle.specs.declared.Event.{Event}
@@ -22,30 +23,30 @@ use Rattle.cycle.specs.declared.Executed.{Executed}
 use Rattle.cycle.specs.declared.ExecuteAnswer.{ExecuteAnswer}
 use Rattle.cycle.specs.Effects.{switchedState}
 use Rattle.cycle.specs.Helpers.{lateIn, finishedIn, refusedWith}
-use Rattle.cycle.specs.Ret.{isOk, panicFlags, returnRefusal, closeDone, closeOf, returnOf}
+use Rattle.cycle.specs.Ret.{isOk, panicFlags, closeDone, closeOf, returnOf}
 
-module _ (settings : Settings) (caller : Frame) (s : State) (late : Bool) (el : late ≡ lateIn settings s)
-    (n : ℕ) (en : n ≡ closeRefusal (isOk s) caller (s .current) (s .«pubdata_revert_counter») late) where
-  pub close-refused : (n ≡ 0 → ⊥) → (r : Executed) → r ≡ refusedWith s n → r ≡ closeOf settings caller s
-  unfolding closeOf
-  close-refused t r e = rw (← el, ← en, ne-eqb n 0 t) e
-
+module _ (settings : Settings) (caller : Frame) (s : State)
+    (spent : Checked) (ep : spent ≡ pubdataAfter (isOk s) (caller .«total_pubdata_spent» .0) (s .current .«total_pubdata_spent» .0))
+    (reverted : Checked) (er : reverted ≡ counterAfter (isOk s) (s .«pubdata_revert_counter» .0) (s .current .«total_pubdata_spent» .0))
+    (late : Bool) (el : late ≡ lateIn settings s) where
   abbrev past : Bool
   past = ergsPast (caller .«ergs_remaining») (s .current .«ergs_remaining»)
 
-  module _ (z : n ≡ 0) where
+  abbrev checks : List Check
+  checks =
+      (isOutside spent refuses 10) ∷ (isBadCounter reverted refuses 11) ∷ (past refuses 12) ∷ (isShrunk caller (s .current) refuses 13) ∷ (late refuses 14) ∷ []
+
+  pub close-refused : (some : Bool) → some ≡ someHolds checks → some ≡ true → (n : ℕ) → n ≡ firstNumber checks → (r : Executed) → r ≡ refusedWith s n
+      → r ≡ closeOf settings caller s
+  unfolding closeOf
+  close-refused some es t n en r e = let k = refusal.refused checks tt (sym es ∙ t) n en in rw (← ep, ← er, ← el, ← k .0, ne-eqb n 0 (k .1)) e
+
+  module _ (some : Bool) (es : some ≡ someHolds checks) (z : some ≡ false) where
+    passes : firstOf checks ≡ 0
+    passes = refusal.passed checks (sym es ∙ z)
+
     none : (past ≡ false) × (late ≡ false)
-    none =
-        let p =
-        clear
-        ((isOutside (pubdataAfter (isOk s) (caller .«total_pubdata_spent» .0) (s .current .«total_pubdata_spent» .0)) refuses 10)
-        ∷ (isBadCounter (counterAfter (isOk s) (s .«pubdata_revert_counter» .0) (s .current .«total_pubdata_spent» .0)) refuses 11)
-        ∷ (past refuses 12)
-        ∷ (isShrunk caller (s .current) refuses 13)
-        ∷ (late refuses 14)
-        ∷ [])
-        tt (sym en ∙ z) .1 .1 in
-        (p .0, p .1 .1 .0)
+    none = let p = refusal.clear checks tt passes .1 .1 in (p .0, p .1 .1 .0)
 
     pub close-ergs : caller .«ergs_remaining» + s .current .«ergs_remaining» < 2 ^ 32
     close-ergs = leb-false (2 ^ 32) (caller .«ergs_remaining» + s .current .«ergs_remaining») (none .0)
@@ -54,32 +55,35 @@ module _ (settings : Settings) (caller : Frame) (s : State) (late : Bool) (el : 
     close-timely = sym el ∙ none .1
 
     pub close-done : (ergs : ℕ) → ergs ≡ caller .«ergs_remaining» + s .current .«ergs_remaining»
-        → (f : Frame) → f ≡ resumedOf (s .kept .instruction) caller (s .current) ergs
-        → (counter : Checked) → counter ≡ counterAfter (isOk s) (s .«pubdata_revert_counter» .0) (s .current .«total_pubdata_spent» .0)
-        → (reverts : PubdataCost) → reverts ≡ costOf counter
+        → (f : Frame) → f ≡ resumedWith caller (s .current) (costOf spent) ergs
+        (returnPc (isOk s) (s .kept .instruction .«to_label») (s .kept .instruction .«imm_0») (s .current .«exception_handler_location») (caller .pc))
+        → (reverts : PubdataCost) → reverts ≡ costOf reverted
         → (flags : Flags) → flags ≡ panicFlags (eqb (s .kept .instruction .«return_kind») 2)
         → (depth : ℕ) → depth ≡ s .depth - 1
         → (base : State) → base ≡ finishedIn settings s
         → (next : State) → next ≡ switchedState base f depth flags reverts
         → _≡_ {A = Executed} (record { state = next; answer = ExecuteAnswer.Done Write.None (Event.Closed (not (isOk s))) }) (closeOf settings caller s)
-    unfolding closeOf closeDone
-    close-done ergs e1 f e2 counter e3 reverts e4 flags e5 depth e6 base e7 next ex =
-        rw (← el, ← en, eq-eqb n 0 z, ex, e7, e2, e4, e3, e5, e6, e1)
+    unfolding closeOf closeDone resumedOf
+    close-done ergs e1 f e2 reverts e3 flags e4 depth e5 base e6 next ex =
+        rw (← ep, ← er, ← el, passes, ex, e6, e2, e3, e4, e5, e1)
 
-module _ (settings : Settings) (s : State) (store : List ℕ) (n : ℕ) (en : n ≡ returnRefusal (s .current .«is_local_frame») (s .depth)) where
-  pub refused : (n ≡ 0 → ⊥) → (r : Executed) → r ≡ refusedWith s n → r ≡ returnOf settings s store
+module _ (settings : Settings) (s : State) (store : List ℕ) where
+  abbrev returnChecks : List Check
+  returnChecks = (not (s .current .«is_local_frame») refuses 7) ∷ (eqb (s .depth) 0 refuses 8) ∷ []
+
+  pub refused : someHolds returnChecks ≡ true → (n : ℕ) → n ≡ firstNumber returnChecks → (r : Executed) → r ≡ refusedWith s n → r ≡ returnOf settings s store
   unfolding returnOf
-  refused t r e = rw (← en, ne-eqb n 0 t) e
+  refused t n en r e = let k = refusal.refused returnChecks tt t n en in rw (← k .0, ne-eqb n 0 (k .1)) e
 
-  module _ (z : n ≡ 0) (i : ℕ) (ei : i ≡ s .depth - 1) (row : ReadAnswer) (er : row ≡ readOf 16 store i) where
+  module _ (z : someHolds returnChecks ≡ false) (i : ℕ) (ei : i ≡ s .depth - 1) (row : ReadAnswer) (er : row ≡ readOf 16 store i) where
     pub good : (caller : Frame) → row ≡ ReadAnswer.Good caller → (r : Executed) → r ≡ closeOf settings caller s → r ≡ returnOf settings s store
     unfolding returnOf
-    good caller e r ex = rw (← en, eq-eqb n 0 z, ← ei, ← er, e) ex
+    good caller e r ex = rw (refusal.passed returnChecks z, ← ei, ← er, e) ex
 
     pub missing : row ≡ ReadAnswer.Missing → (r : Executed) → r ≡ refusedWith s 1 → r ≡ returnOf settings s store
     unfolding returnOf
-    missing e r ex = rw (← en, eq-eqb n 0 z, ← ei, ← er, e) ex
+    missing e r ex = rw (refusal.passed returnChecks z, ← ei, ← er, e) ex
 
     pub not-good : row ≡ ReadAnswer.NotGood → (r : Executed) → r ≡ refusedWith s 8 → r ≡ returnOf settings s store
     unfolding returnOf
-    not-good e r ex = rw (← en, eq-eqb n 0 z, ← ei, ← er, e) ex
+    not-good e r ex = rw (refusal.passed returnChecks z, ← ei, ← er, e) ex

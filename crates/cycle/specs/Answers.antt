@@ -37,7 +37,7 @@ fetchNumber (FetchAnswer.Refused n) = n
 
 -- decode: "The answer gives the flags and the charge."
 abbrev pub decodeNumber : DecodeAnswer → ℕ
-decodeNumber (DecodeAnswer.Done errors charge) = 0
+decodeNumber (DecodeAnswer.Done charge errors) = 0
 decodeNumber (DecodeAnswer.Refused n) = n
 
 -- operands: "either no location or a memory kind, page and index", of the source and of the destination
@@ -60,7 +60,7 @@ fetchCase (FetchAnswer.Refused n) = []
 
 -- "The answer gives the flags and the charge": explicit panic, NOT_ENOUGH_ERGS, kernel only, static, depth equal to limit, then the charge
 abbrev pub decodeCase : DecodeAnswer → List ℕ
-decodeCase (DecodeAnswer.Done errors charge) =
+decodeCase (DecodeAnswer.Done charge errors) =
     boolByte (errors .«invalid_opcode»)
     ∷ boolByte (errors .«not_enough_ergs»)
     ∷ boolByte (errors .«privilaged_access_not_from_kernel»)

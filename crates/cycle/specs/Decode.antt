@@ -70,7 +70,7 @@ decodedState s ergs instruction = record {
 unfoldable pub decodeDone : Settings → Records → State → Decoded
 decodeDone settings records s = record {
   state = decodedState s (s .current .«ergs_remaining» - priceIn records s) (keptOf settings records s);
-  answer = DecodeAnswer.Done (errorsOf settings records s) (chargeIn records s);
+  answer = DecodeAnswer.Done (chargeIn records s) (errorsOf settings records s);
 }
 
 unfoldable pub decodeOf : Settings → Records → State → List ℕ → Decoded

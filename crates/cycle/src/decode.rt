@@ -30,7 +30,7 @@ fn super_pc_or(has_word: bool, pc: u16, previous: u16) -> u16
 
 impl State {
     // The delayed changes show from here, with the ergs and the kept record.
-    fn decoded(mut self, ergs: u32, instruction: Record) -> State
+    fn decoded(self, ergs: u32, instruction: Record) -> State
         ensures { λ r. ⌜ r ≡ decodedState self ergs instruction ⌝ }
     {
         let read = self.fetched_word;
@@ -43,16 +43,17 @@ impl State {
             instruction,
             write: Location::None,
         };
-        self.current.ergs_remaining = ergs;
-        self.previous_code_word = word;
-        self.previous_super_pc = super_pc;
-        self.previous_code_memory_page = page;
-        self.pending_exception = false;
-        self.fetched_word = none;
-        self.has_word = false;
-        self.kept = kept;
-        self.stage = 2;
-        self
+        let mut next = self.apart();
+        next.current.ergs_remaining = ergs;
+        next.previous_code_word = word;
+        next.previous_super_pc = super_pc;
+        next.previous_code_memory_page = page;
+        next.pending_exception = false;
+        next.fetched_word = none;
+        next.has_word = false;
+        next.kept = kept;
+        next.stage = 2;
+        next
     }
 
     pub fn decode(self, settings: Settings, store: &[u32], records: Records) -> Decoded
@@ -70,8 +71,9 @@ impl State {
         let flagged = decode::any_error(errors);
         let sizes = refusal::bad_sizes(settings.depth_limit, self.depth, store.len());
         let bad = parsing::bad_records(records, ended, self.pending_exception, flagged);
-        let n = refusal::first_refusal(sizes, !(self.stage == 1), bad, 3, false, 0);
-        if n != 0 {
+        let turn = !(self.stage == 1);
+        if sizes | turn | bad {
+            let n = refusal::first_number(sizes, turn, 3);
             return Decoded {
                 state: self,
                 answer: DecodeAnswer::Refused(n),
@@ -81,11 +83,10 @@ impl State {
         let charge = decode::smaller(price, current.ergs_remaining);
         let ergs = decode::less(current.ergs_remaining, price);
         let holds = decode::condition_holds(plain.condition, flags);
-        let unmasked = parsing::either(holds, plain, nop);
-        let next = self.decoded(ergs, parsing::either(flagged, panic, unmasked));
+        let next = self.decoded(ergs, parsing::masked(flagged, holds, plain, panic, nop));
         Decoded {
             state: next,
-            answer: DecodeAnswer::Done { errors, charge },
+            answer: DecodeAnswer::Done { charge, errors },
         }
     }
 }

@@ -1,7 +1,8 @@
 // Execute, from the Rust's `cycle`.
 ghost use mathlib.Core.Path.{_≡_};
+ghost use mathlib.Core.Bool.{cond};
 ghost use Rattle.frame.specs.Refusal.{firstOf};
-ghost use Rattle.cycle.specs.Execute.{executeRefusal, executeOf, executeStore};
+ghost use Rattle.cycle.specs.Execute.{executeOf, executeStore};
 ghost use Rattle.cycle.specs.Answers.{executeNumber, executeChecks, executeCase};
 ghost use Rattle.cycle.specs.Tells.{executeTells};
 use crate::Executed;
@@ -12,23 +13,15 @@ use rules::refusal;
 use rules::select;
 use u256::U256;
 
-// Refusals 1, 2, 3, 5 and 6.
-fn execute_refusal(sizes: bool, turn: bool, bad: bool, other: bool, pointer: bool) -> u32
-    ensures { λ r. ⌜ r ≡ executeRefusal sizes turn bad other pointer ⌝ }
+// Refusals 1, 2, 3, 5 and 6, one of which holds.
+fn execute_refusal(sizes: bool, turn: bool, bad: bool, other: bool) -> u32
+    ensures { λ r. ⌜ r ≡ cond sizes 1 (cond turn 2 (cond bad 3 (cond other 5 6))) ⌝ }
 {
-    if sizes {
-        1
-    } else if turn {
-        2
-    } else if bad {
-        3
-    } else if other {
-        5
-    } else if pointer {
-        6
-    } else {
-        0
-    }
+    refusal::first_number(
+        sizes,
+        turn,
+        refusal::either_number(bad, 3, refusal::either_number(other, 5, 6)),
+    )
 }
 
 impl State {
@@ -61,9 +54,10 @@ impl State {
             src0.is_pointer,
             src1.is_pointer,
         );
-        let n = execute_refusal(sizes, !(self.stage == 3), bad, operation == 5, held);
-        if n != 0 {
-            return self.refused(n);
+        let turn = !(self.stage == 3);
+        let other = operation == 5;
+        if sizes | turn | bad | other | held {
+            return self.refused(execute_refusal(sizes, turn, bad, other));
         }
         let a = src0.value;
         let b = src1.value;

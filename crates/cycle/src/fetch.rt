@@ -39,13 +39,14 @@ fn code_answer(ended: bool, pending: bool, bits: u64) -> FetchAnswer
 }
 
 impl State {
-    fn fetched(mut self, wanted: bool, word: U256) -> State
+    fn fetched(self, wanted: bool, word: U256) -> State
         ensures { λ r. ⌜ r ≡ fetchedState self wanted word ⌝ }
     {
-        self.fetched_word = word;
-        self.has_word = wanted;
-        self.stage = 1;
-        self
+        let mut next = self.apart();
+        next.fetched_word = word;
+        next.has_word = wanted;
+        next.stage = 1;
+        next
     }
 
     // Whether a code read is wanted, and from where.
@@ -73,8 +74,9 @@ impl State {
         let ended = self.depth == 0;
         let pending = self.pending_exception;
         let sizes = refusal::bad_sizes(settings.depth_limit, self.depth, store.len());
-        let n = refusal::first_refusal(sizes, !(self.stage == 0), ended & pending, 4, false, 0);
-        if n != 0 {
+        let turn = !(self.stage == 0);
+        if sizes | turn | (ended & pending) {
+            let n = refusal::first_number(sizes, turn, 4);
             return Fetched {
                 state: self,
                 answer: FetchAnswer::Refused(n),

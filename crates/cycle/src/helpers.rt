@@ -107,8 +107,41 @@ pub(crate) fn write_of(location: Location, time: u32, value: PrimitiveValue) -> 
 }
 
 impl State {
+    // The same state, each narrow field copied by itself: several in one piece cost shifts in each cycle.
+    pub(crate) fn apart(mut self) -> State
+        ensures { λ r. ⌜ r ≡ self ⌝ }
+    {
+        let f = self.current;
+        let flags = self.flags;
+        let previous_code_memory_page = self.previous_code_memory_page;
+        let timestamp = self.timestamp;
+        let monotonic_cycle_counter = self.monotonic_cycle_counter;
+        let depth = self.depth;
+        let previous_super_pc = self.previous_super_pc;
+        let stage = self.stage;
+        let has_word = self.has_word;
+        let pending_exception = self.pending_exception;
+        let current = f.apart();
+        let apart = Flags {
+            overflow_or_less_than_flag: flags.overflow_or_less_than_flag,
+            equality_flag: flags.equality_flag,
+            greater_than_flag: flags.greater_than_flag,
+        };
+        self.current = current;
+        self.flags = apart;
+        self.previous_code_memory_page = previous_code_memory_page;
+        self.timestamp = timestamp;
+        self.monotonic_cycle_counter = monotonic_cycle_counter;
+        self.depth = depth;
+        self.previous_super_pc = previous_super_pc;
+        self.stage = stage;
+        self.has_word = has_word;
+        self.pending_exception = pending_exception;
+        self
+    }
+
     // Ready for the next cycle.
-    pub(crate) fn finished(mut self, time: u32, counter: u32) -> State
+    pub(crate) fn finished(self, time: u32, counter: u32) -> State
         ensures { λ r. ⌜ r ≡ finishedState self time counter ⌝ }
     {
         let kept = Kept {
@@ -123,48 +156,46 @@ impl State {
             w2: previous.w2,
             w3: previous.w3,
         };
-        self.previous_code_word = word;
-        self.timestamp = time;
-        self.monotonic_cycle_counter = counter;
-        self.kept = kept;
-        self.stage = 0;
-        self
+        let mut next = self.apart();
+        next.previous_code_word = word;
+        next.timestamp = time;
+        next.monotonic_cycle_counter = counter;
+        next.kept = kept;
+        next.stage = 0;
+        next
     }
 
-    pub(crate) fn moved(mut self, pc: u16) -> State
+    pub(crate) fn moved(self, pc: u16) -> State
         ensures { λ r. ⌜ r ≡ movedState self pc ⌝ }
     {
-        self.current.pc = pc;
-        self
+        let mut next = self.apart();
+        next.current.pc = pc;
+        next
     }
 
-    pub(crate) fn written(mut self, flags: Flags, n: u8, word: U256) -> State
+    pub(crate) fn written(self, flags: Flags, n: u8, word: U256) -> State
         ensures { λ r. ⌜ r ≡ writtenState self flags n word ⌝ }
     {
         let old_words = self.registers;
         let old_pointers = self.pointers;
         let words = registers::update(old_words, n, word);
         let pointers = registers::update_pointer(old_pointers, n, false);
-        self.registers = words;
-        self.pointers = pointers;
-        self.flags = flags;
-        self
+        let mut next = self.apart();
+        next.registers = words;
+        next.pointers = pointers;
+        next.flags = flags;
+        next
     }
 
-    pub(crate) fn switched(
-        mut self,
-        f: Frame,
-        depth: u32,
-        flags: Flags,
-        counter: PubdataCost,
-    ) -> State
+    pub(crate) fn switched(self, f: Frame, depth: u32, flags: Flags, counter: PubdataCost) -> State
         ensures { λ r. ⌜ r ≡ switchedState self f depth flags counter ⌝ }
     {
-        self.current = f;
-        self.depth = depth;
-        self.flags = flags;
-        self.pubdata_revert_counter = counter;
-        self
+        let mut next = self.apart();
+        next.current = f;
+        next.depth = depth;
+        next.flags = flags;
+        next.pubdata_revert_counter = counter;
+        next
     }
 
     // Refusal 14 of every operation.

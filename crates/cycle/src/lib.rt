@@ -59,7 +59,8 @@ pub struct Fetched {
 }
 
 pub enum DecodeAnswer {
-    Done { errors: ErrorFlags, charge: u32 },
+    // The charge first, where Refused has its number: elsewhere the answer would stay in memory.
+    Done { charge: u32, errors: ErrorFlags },
     Refused(u32),
 }
 

@@ -2,7 +2,7 @@
 ghost use mathlib.Core.Path.{_≡_};
 ghost use mathlib.Core.Bool.{false};
 ghost use Rattle.cycle.specs.State.{badStore};
-ghost use Rattle.cycle.specs.NearCall.{callRefusal, nearCallOf, nearCallStore};
+ghost use Rattle.cycle.specs.NearCall.{nearCallOf, nearCallStore};
 use crate::Event;
 use crate::ExecuteAnswer;
 use crate::Executed;
@@ -12,20 +12,8 @@ use crate::helpers;
 use rules::Settings;
 use rules::decode;
 use rules::near_call;
+use rules::refusal;
 use rules::time;
-
-// Refusals 9 and 14.
-fn call_refusal(full: bool, late: bool) -> u32
-    ensures { λ r. ⌜ r ≡ callRefusal full late ⌝ }
-{
-    if full {
-        9
-    } else if late {
-        14
-    } else {
-        0
-    }
-}
 
 impl State {
     // The caller's row is written at the first free row.
@@ -36,9 +24,9 @@ impl State {
         let kept = self.kept;
         let instruction = kept.instruction;
         let depth = self.depth;
-        let n = call_refusal(depth == settings.depth_limit, self.is_late(settings));
-        if n != 0 {
-            return self.refused(n);
+        let full = depth == settings.depth_limit;
+        if full | self.is_late(settings) {
+            return self.refused(refusal::either_number(full, 9, 14));
         }
         let f = self.current;
         let wanted = near_call::wanted_ergs(want, settings.near_call_multiplier);

@@ -14,16 +14,17 @@ use rules::parsing;
 use rules::refusal;
 
 impl State {
-    fn addressed(mut self, sp: u16, write: Location) -> State
+    fn addressed(self, sp: u16, write: Location) -> State
         ensures { λ r. ⌜ r ≡ addressedState self sp write ⌝ }
     {
         let old = self.kept;
         let instruction = old.instruction;
         let kept = Kept { instruction, write };
-        self.current.sp = sp;
-        self.kept = kept;
-        self.stage = 3;
-        self
+        let mut next = self.apart();
+        next.current.sp = sp;
+        next.kept = kept;
+        next.stage = 3;
+        next
     }
 
     pub fn operands(self, settings: Settings, store: &[u32]) -> Addressed
@@ -37,8 +38,9 @@ impl State {
         let sizes = refusal::bad_sizes(settings.depth_limit, self.depth, store.len());
         let bad = !parsing::good_record(instruction);
         let lacking = mem_ops::lacks_stack_page(instruction, base);
-        let n = refusal::first_refusal(sizes, !(self.stage == 2), bad, 3, lacking, 14);
-        if n != 0 {
+        let turn = !(self.stage == 2);
+        if sizes | turn | bad | lacking {
+            let n = refusal::first_number(sizes, turn, refusal::either_number(bad, 3, 14));
             return Addressed {
                 state: self,
                 answer: OperandsAnswer::Refused(n),

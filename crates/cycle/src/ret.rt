@@ -1,6 +1,6 @@
 // Return from a local frame, after the Rust's `ret.rs` and `finish_frame`.
 ghost use mathlib.Core.Path.{_≡_};
-ghost use Rattle.cycle.specs.Ret.{panicFlags, returnRefusal, closeOf, returnOf};
+ghost use Rattle.cycle.specs.Ret.{panicFlags, closeOf, returnOf};
 use crate::Event;
 use crate::ExecuteAnswer;
 use crate::Executed;
@@ -12,6 +12,7 @@ use frame::ReadAnswer;
 use rules::Flags;
 use rules::Settings;
 use rules::decode;
+use rules::refusal;
 use rules::ret;
 
 fn panic_flags(panic: bool) -> Flags
@@ -21,19 +22,6 @@ fn panic_flags(panic: bool) -> Flags
         overflow_or_less_than_flag: panic,
         equality_flag: false,
         greater_than_flag: false,
-    }
-}
-
-// Refusal 7, and 8 at depth 0.
-fn return_refusal(local: bool, depth: u32) -> u32
-    ensures { λ r. ⌜ r ≡ returnRefusal local depth ⌝ }
-{
-    if !local {
-        7
-    } else if depth == 0 {
-        8
-    } else {
-        0
     }
 }
 
@@ -48,13 +36,15 @@ impl State {
         let closed_cost = f.total_pubdata_spent;
         let reverts = self.pubdata_revert_counter;
         let ok = instruction.return_kind == 0;
-        let n = ret::close_refusal(ok, caller, f, reverts, self.is_late(settings));
-        if n != 0 {
-            return self.refused(n);
+        let caller_cost = caller.total_pubdata_spent;
+        let spent = ret::pubdata_after(ok, caller_cost, closed_cost);
+        let reverted = ret::counter_after(ok, reverts, closed_cost);
+        if ret::is_close_refused(spent, reverted, caller, f, self.is_late(settings)) {
+            return self.refused(ret::close_number(spent, reverted, caller, f));
         }
         let ergs = helpers::sum(caller.ergs_remaining, f.ergs_remaining);
-        let resumed = ret::resumed_frame(instruction, caller, f, ergs);
-        let counter = ret::cost_of(ret::counter_after(ok, reverts, closed_cost));
+        let resumed = ret::resumed_frame(instruction, caller, f, spent, ergs);
+        let counter = ret::cost_of(reverted);
         let flags = panic_flags(instruction.return_kind == 2);
         let depth = decode::less(self.depth, 1);
         let next = self.finish(settings)
@@ -72,9 +62,9 @@ impl State {
         ensures { λ r. ⌜ r ≡ returnOf settings self (now (store .entry)) ⌝ }
     {
         let depth = self.depth;
-        let n = return_refusal(self.current.is_local_frame, depth);
-        if n != 0 {
-            return self.refused(n);
+        let far = !self.current.is_local_frame;
+        if far | (depth == 0) {
+            return self.refused(refusal::either_number(far, 7, 8));
         }
         let row = frame::read_frame(store, decode::less(depth, 1));
         match row {

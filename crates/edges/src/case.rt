@@ -102,7 +102,7 @@ fn code_of(answer: FetchAnswer) -> u64 {
 
 fn lacks_ergs(answer: DecodeAnswer) -> bool {
     match answer {
-        DecodeAnswer::Done { errors, charge: _ } => errors.not_enough_ergs,
+        DecodeAnswer::Done { charge: _, errors } => errors.not_enough_ergs,
         DecodeAnswer::Refused(_) => false,
     }
 }

@@ -54,6 +54,29 @@ pub struct Frame {
 }
 
 impl Frame {
+    // The same frame, each narrow field copied by itself: several in one piece cost shifts in each cycle.
+    pub fn apart(mut self) -> Frame
+        ensures { λ r. ⌜ r ≡ self ⌝ }
+    {
+        let sp = self.sp;
+        let pc = self.pc;
+        let exception_handler_location = self.exception_handler_location;
+        let this_shard_id = self.this_shard_id;
+        let caller_shard_id = self.caller_shard_id;
+        let code_shard_id = self.code_shard_id;
+        let is_static = self.is_static;
+        let is_local_frame = self.is_local_frame;
+        self.sp = sp;
+        self.pc = pc;
+        self.exception_handler_location = exception_handler_location;
+        self.this_shard_id = this_shard_id;
+        self.caller_shard_id = caller_shard_id;
+        self.code_shard_id = code_shard_id;
+        self.is_static = is_static;
+        self.is_local_frame = is_local_frame;
+        self
+    }
+
     pub fn is_kernel_mode(self) -> bool
         ensures { λ r. ⌜ r ≡ kernelMode self ⌝ }
     {

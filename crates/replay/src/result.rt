@@ -168,7 +168,7 @@ fn errors_number(errors: ErrorFlags) -> u64 {
 
 fn put_decode(out: &mut [u8], at: usize, answer: DecodeAnswer) -> usize {
     match answer {
-        DecodeAnswer::Done { errors, charge } => {
+        DecodeAnswer::Done { charge, errors } => {
             put_pair(out, at, errors_number(errors), charge as u64)
         }
         DecodeAnswer::Refused(_) => at,

@@ -23,22 +23,24 @@ pub fn passed_ergs(wanted: u32, held: u32) -> u32
     if all { held } else { wanted }
 }
 
-pub fn caller_frame(mut f: Frame, ergs: u32, pc: u16) -> Frame
+pub fn caller_frame(f: Frame, ergs: u32, pc: u16) -> Frame
     ensures { λ r. ⌜ r ≡ callerOf f ergs pc ⌝ }
 {
-    f.ergs_remaining = ergs;
-    f.pc = pc;
-    f
+    let mut caller = f.apart();
+    caller.ergs_remaining = ergs;
+    caller.pc = pc;
+    caller
 }
 
-pub fn opened_frame(mut f: Frame, ergs: u32, pc: u16, handler: u16) -> Frame
+pub fn opened_frame(f: Frame, ergs: u32, pc: u16, handler: u16) -> Frame
     ensures { λ r. ⌜ r ≡ openedOf f ergs pc handler ⌝ }
 {
     let none = PubdataCost(0);
-    f.ergs_remaining = ergs;
-    f.pc = pc;
-    f.exception_handler_location = handler;
-    f.is_local_frame = true;
-    f.total_pubdata_spent = none;
-    f
+    let mut opened = f.apart();
+    opened.ergs_remaining = ergs;
+    opened.pc = pc;
+    opened.exception_handler_location = handler;
+    opened.is_local_frame = true;
+    opened.total_pubdata_spent = none;
+    opened
 }

@@ -1,8 +1,8 @@
 // The sums of a local return.
 ghost use mathlib.Core.Path.{_≡_};
-ghost use mathlib.Core.List.{[], _∷_};
-ghost use Rattle.frame.specs.Refusal.{firstOf, _refuses_};
-ghost use Rattle.rules.specs.Ret.{pubdataAfter, counterAfter, isOutside, isBadCounter, costOf, returnPc, ergsPast, isShrunk, closeRefusal, resumedWith, resumedOf};
+ghost use mathlib.Core.Bool.{cond, _||_};
+ghost use lib.Dec.{eqb};
+ghost use Rattle.rules.specs.Ret.{pubdataAfter, counterAfter, isOutside, isBadCounter, costOf, returnPc, ergsPast, isShrunk, resumedWith};
 use crate::Record;
 use frame::Frame;
 use frame::PubdataCost;
@@ -72,25 +72,6 @@ pub fn return_pc(ok: bool, label: bool, target: u16, handler: u16, saved: u16) -
     }
 }
 
-// The first of refusals 10 to 14 that holds.
-fn first_of(pubdata: bool, counter: bool, ergs: bool, shrunk: bool, late: bool) -> u32
-    ensures { λ r. ⌜ r ≡ firstOf ((pubdata refuses 10) ∷ (counter refuses 11) ∷ (ergs refuses 12) ∷ (shrunk refuses 13) ∷ (late refuses 14) ∷ []) ⌝ }
-{
-    if pubdata {
-        10
-    } else if counter {
-        11
-    } else if ergs {
-        12
-    } else if shrunk {
-        13
-    } else if late {
-        14
-    } else {
-        0
-    }
-}
-
 pub fn ergs_past(caller: u32, closed: u32) -> bool
     ensures { λ r. ⌜ r ≡ ergsPast caller closed ⌝ }
 {
@@ -103,29 +84,55 @@ pub fn is_shrunk(caller: Frame, closed: Frame) -> bool
     (closed.heap_bound < caller.heap_bound) | (closed.aux_heap_bound < caller.aux_heap_bound)
 }
 
-// Refusals 10 to 14.
-pub fn close_refusal(
-    ok: bool,
+// Whether one of refusals 10 to 14 holds; the sums of pubdata are made before.
+pub fn is_close_refused(
+    spent: Checked,
+    reverted: Checked,
     caller: Frame,
     closed: Frame,
-    reverts: PubdataCost,
     late: bool,
-) -> u32
-    ensures { λ r. ⌜ r ≡ closeRefusal ok caller closed reverts late ⌝ }
+) -> bool
+    ensures { λ r. ⌜ r ≡ (isOutside spent || isBadCounter reverted || ergsPast (caller .«ergs_remaining») (closed .«ergs_remaining») || isShrunk caller closed || late) ⌝ }
 {
-    let caller_cost = caller.total_pubdata_spent;
-    let closed_cost = closed.total_pubdata_spent;
-    let outside = is_outside(pubdata_after(ok, caller_cost, closed_cost));
-    let bad = is_bad_counter(counter_after(ok, reverts, closed_cost));
+    let outside = is_outside(spent);
+    let bad = is_bad_counter(reverted);
     let past = ergs_past(caller.ergs_remaining, closed.ergs_remaining);
-    first_of(outside, bad, past, is_shrunk(caller, closed), late)
+    outside | bad | past | is_shrunk(caller, closed) | late
 }
 
-fn resumed(mut f: Frame, closed: Frame, pubdata: PubdataCost, ergs: u32, pc: u16) -> Frame
-    ensures { λ r. ⌜ r ≡ resumedWith f closed pubdata ergs pc ⌝ }
+fn first_of(outside: bool, bad: bool, past: bool, shrunk: bool) -> u32
+    ensures { λ r. ⌜ r ≡ cond outside 10 (cond bad 11 (cond past 12 (cond shrunk 13 14))) ⌝ }
+{
+    if outside {
+        10
+    } else if bad {
+        11
+    } else if past {
+        12
+    } else if shrunk {
+        13
+    } else {
+        14
+    }
+}
+
+// The number of the first of them, one of which holds. It is never 0.
+pub fn close_number(spent: Checked, reverted: Checked, caller: Frame, closed: Frame) -> u32
+    ensures { λ r. ⌜ r ≡ cond (isOutside spent) 10 (cond (isBadCounter reverted) 11
+        (cond (ergsPast (caller .«ergs_remaining») (closed .«ergs_remaining»)) 12 (cond (isShrunk caller closed) 13 14))) ⌝ }
+{
+    let outside = is_outside(spent);
+    let bad = is_bad_counter(reverted);
+    let past = ergs_past(caller.ergs_remaining, closed.ergs_remaining);
+    first_of(outside, bad, past, is_shrunk(caller, closed))
+}
+
+fn resumed(caller: Frame, closed: Frame, pubdata: PubdataCost, ergs: u32, pc: u16) -> Frame
+    ensures { λ r. ⌜ r ≡ resumedWith caller closed pubdata ergs pc ⌝ }
 {
     let heap = closed.heap_bound;
     let aux = closed.aux_heap_bound;
+    let mut f = caller.apart();
     f.heap_bound = heap;
     f.aux_heap_bound = aux;
     f.total_pubdata_spent = pubdata;
@@ -134,16 +141,14 @@ fn resumed(mut f: Frame, closed: Frame, pubdata: PubdataCost, ergs: u32, pc: u16
     f
 }
 
-// The caller as it goes on with so many ergs.
-pub fn resumed_frame(r: Record, caller: Frame, closed: Frame, ergs: u32) -> Frame
-    ensures { λ f. ⌜ f ≡ resumedOf r caller closed ergs ⌝ }
+// The caller as it goes on with this pubdata and so many ergs.
+pub fn resumed_frame(r: Record, caller: Frame, closed: Frame, spent: Checked, ergs: u32) -> Frame
+    ensures { λ f. ⌜ f ≡ resumedWith caller closed (costOf spent) ergs
+        (returnPc (eqb (r .«return_kind») 0) (r .«to_label») (r .«imm_0») (closed .«exception_handler_location») (caller .pc)) ⌝ }
 {
-    let ok = r.return_kind == 0;
-    let caller_cost = caller.total_pubdata_spent;
-    let closed_cost = closed.total_pubdata_spent;
-    let cost = cost_of(pubdata_after(ok, caller_cost, closed_cost));
+    let cost = cost_of(spent);
     let pc = return_pc(
-        ok,
+        r.return_kind == 0,
         r.to_label,
         r.imm_0,
         closed.exception_handler_location,

@@ -75,7 +75,7 @@ cycleNumber (CycleAnswer.Done read fetch decode operands execute) = 0
 cycleNumber (CycleAnswer.Refused number stage) = number
 
 abbrev pub decodeCharge : DecodeAnswer → ℕ
-decodeCharge (DecodeAnswer.Done errors charge) = charge
+decodeCharge (DecodeAnswer.Done charge errors) = charge
 decodeCharge (DecodeAnswer.Refused n) = 0
 
 abbrev pub cycleCharge : CycleAnswer → ℕ

@@ -68,8 +68,8 @@ fn decode_number(answer: DecodeAnswer) -> u32
     match answer {
         DecodeAnswer::Refused(n) => n,
         DecodeAnswer::Done {
-            errors: _,
             charge: _,
+            errors: _,
         } => 0,
     }
 }
@@ -188,7 +188,7 @@ fn decode_charge(answer: DecodeAnswer) -> u32
 {
     match answer {
         DecodeAnswer::Refused(_) => 0,
-        DecodeAnswer::Done { errors: _, charge } => charge,
+        DecodeAnswer::Done { charge, errors: _ } => charge,
     }
 }
 

@@ -16,8 +16,8 @@ bad-sizes-requires c κs = search needs
 bad-records-requires : tie.Need-bad-records-requires
 bad-records-requires c κs = search needs
 
-first-refusal-requires : tie.Need-first-refusal-requires
-first-refusal-requires c κs = search needs
+first-number-requires : tie.Need-first-number-requires
+first-number-requires c κs = search needs
 
 returns : tie.Need-returns
 returns c =
@@ -28,7 +28,7 @@ returns c =
     let p6 = p5 .before in
     let p14 = p6 .before .before .before .before .before .before .before .before in
     let a = p14 .args in
-    answers.decode-numbered _ _ _ _ _ (laws.refused (a .settings) (a .records) (a .self) (a .store .now) _ (p6 .error-flags .ensures) _ (p5 .any-error .ensures) _ (p4 .bad-sizes .ensures) _ (p3 .bad-records .ensures) _ (p1 .first-refusal .ensures) (c .if1 .taken))
+    answers.decode-numbered _ _ _ _ _ (laws.refused (a .settings) (a .records) (a .self) (a .store .now) _ (p6 .error-flags .ensures) _ (p5 .any-error .ensures) _ (p4 .bad-sizes .ensures) _ (p3 .bad-records .ensures) (p1 .if1 .taken) _ (c .first-number .ensures))
 
 price-of-requires : tie.Need-price-of-requires
 price-of-requires c κs = search needs
@@ -42,11 +42,8 @@ less-requires c κs = search needs
 condition-holds-requires : tie.Need-condition-holds-requires
 condition-holds-requires c κs = search needs
 
-either-requires : tie.Need-either-requires
-either-requires c κs = search needs
-
-either-requires-2 : tie.Need-either-requires-2
-either-requires-2 c κs = search needs
+masked-requires : tie.Need-masked-requires
+masked-requires c κs = search needs
 
 decoded-requires : tie.Need-decoded-requires
 decoded-requires c κs = search needs
@@ -59,15 +56,13 @@ returns-2 c =
     let p4 = p3 .before in
     let p5 = p4 .before in
     let p6 = p5 .before in
-    let p7 = p6 .before in
-    let p8 = p7 .before in
-    let p10 = p8 .before .before in
+    let p8 = p6 .before .before in
+    let p9 = p8 .before in
+    let p10 = p9 .before in
     let p11 = p10 .before in
-    let p12 = p11 .before in
-    let p13 = p12 .before in
-    let p21 = p13 .before .before .before .before .before .before .before .before in
-    let a = p21 .args in
-    answers.decode-numbered _ _ _ _ _ (laws.done (a .settings) (a .records) (a .self) (a .store .now) _ (p13 .error-flags .ensures) _ (p12 .any-error .ensures) _ (p11 .bad-sizes .ensures) _ (p10 .bad-records .ensures) _ (p8 .first-refusal .ensures) (p7 .if1 .left) _ (p6 .price-of .ensures) _ (p5 .smaller .ensures) _ (p4 .less .ensures) _ (p3 .condition-holds .ensures) _ (p2 .either .ensures) _ (p1 .either2 .ensures) _ (c .decoded .ensures))
+    let p19 = p11 .before .before .before .before .before .before .before .before in
+    let a = p19 .args in
+    answers.decode-numbered _ _ _ _ _ (laws.done (a .settings) (a .records) (a .self) (a .store .now) _ (p11 .error-flags .ensures) _ (p10 .any-error .ensures) _ (p9 .bad-sizes .ensures) _ (p8 .bad-records .ensures) (p6 .if1 .left) _ (p5 .price-of .ensures) _ (p4 .smaller .ensures) _ (p3 .less .ensures) _ (p2 .condition-holds .ensures) _ (p1 .masked .ensures) _ (c .decoded .ensures))
 
 pub decode-spec : {M : Type 1} → statement M
 decode-spec =
@@ -77,13 +72,12 @@ decode-spec =
     any-error-requires
     bad-sizes-requires
     bad-records-requires
-    first-refusal-requires
+    first-number-requires
     returns
     price-of-requires
     smaller-requires
     less-requires
     condition-holds-requires
-    either-requires
-    either-requires-2
+    masked-requires
     decoded-requires
     returns-2)

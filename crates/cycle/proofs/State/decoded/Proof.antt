@@ -13,10 +13,13 @@ super-pc-or-requires c κs = search needs
 empty-word-requires : tie.Need-empty-word-requires
 empty-word-requires c κs = search needs
 
+apart-requires : tie.Need-apart-requires
+apart-requires c κs = search needs
+
 returns : tie.Need-returns
 unfolding decodedState withErgs
 returns c = cc
 
 pub decoded-spec : {M : Type 1} → statement M
 decoded-spec =
-    tie.close (tie.spec either-word-requires super-pc-or-requires empty-word-requires returns)
+    tie.close (tie.spec either-word-requires super-pc-or-requires empty-word-requires apart-requires returns)

@@ -7,15 +7,16 @@ use Rattle.cycle.proofs.State.fetch.Tie as tie
 bad-sizes-requires : tie.Need-bad-sizes-requires
 bad-sizes-requires c κs = search needs
 
-first-refusal-requires : tie.Need-first-refusal-requires
-first-refusal-requires c κs = search needs
+first-number-requires : tie.Need-first-number-requires
+first-number-requires c κs = search needs
 
 returns : tie.Need-returns
 returns c =
     let p1 = c .before in
     let p3 = p1 .before .before in
-    let a = p3 .before .before .before .args in
-    answers.fetch-numbered _ _ _ _ _ (laws.refused (a .settings) (a .word) (a .self) (a .store .now) _ (p3 .bad-sizes .ensures) _ (p1 .first-refusal .ensures) (c .if1 .taken))
+    let p6 = p3 .before .before .before in
+    let a = p6 .args in
+    answers.fetch-numbered _ _ _ _ _ (laws.refused (a .settings) (a .word) (a .self) (a .store .now) _ (p3 .bad-sizes .ensures) (p1 .if1 .taken) _ (c .first-number .ensures))
 
 super-pc-requires : tie.Need-super-pc-requires
 super-pc-requires c κs = search needs
@@ -55,18 +56,17 @@ returns-2 c =
     let p7 = p6 .before in
     let p8 = p7 .before in
     let p10 = p8 .before .before in
-    let p11 = p10 .before in
-    let p13 = p11 .before .before in
-    let p16 = p13 .before .before .before in
-    let a = p16 .args in
-    answers.fetch-numbered _ _ _ _ _ (laws.done (a .settings) (a .word) (a .self) (a .store .now) _ (p13 .bad-sizes .ensures) _ (p11 .first-refusal .ensures) (p10 .if1 .left) _ (p8 .super-pc .ensures) _ (p7 .code-wanted .ensures) _ (p6 .either-word .ensures) _ (p5 .sub-pc .ensures) _ (p4 .code-bits .ensures) _ (p3 .empty-word .ensures) _ (p2 .either-word2 .ensures) _ (p1 .fetched .ensures) _ (c .code-answer .ensures))
+    let p12 = p10 .before .before in
+    let p15 = p12 .before .before .before in
+    let a = p15 .args in
+    answers.fetch-numbered _ _ _ _ _ (laws.done (a .settings) (a .word) (a .self) (a .store .now) _ (p12 .bad-sizes .ensures) (p10 .if1 .left) _ (p8 .super-pc .ensures) _ (p7 .code-wanted .ensures) _ (p6 .either-word .ensures) _ (p5 .sub-pc .ensures) _ (p4 .code-bits .ensures) _ (p3 .empty-word .ensures) _ (p2 .either-word2 .ensures) _ (p1 .fetched .ensures) _ (c .code-answer .ensures))
 
 pub fetch-spec : {M : Type 1} → statement M
 fetch-spec =
     tie.close
     (tie.spec
     bad-sizes-requires
-    first-refusal-requires
+    first-number-requires
     returns
     super-pc-requires
     code-wanted-requires

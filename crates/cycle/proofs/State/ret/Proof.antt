@@ -3,8 +3,8 @@ use Rattle.cycle.proofs.RetLaws as laws
 use Rattle.cycle.proofs.State.ret.Statement.{statement}
 use Rattle.cycle.proofs.State.ret.Tie as tie
 
-return-refusal-requires : tie.Need-return-refusal-requires
-return-refusal-requires c κs = search needs
+either-number-requires : tie.Need-either-number-requires
+either-number-requires c κs = search needs
 
 refused-requires : tie.Need-refused-requires
 refused-requires c κs = search needs
@@ -13,9 +13,9 @@ returns : tie.Need-returns
 returns c =
     let p1 = c .before in
     let p2 = p1 .before in
-    let p4 = p2 .before .before in
-    let a = p4 .args in
-    laws.refused (a .settings) (a .self) (a .store .now) _ (p2 .return-refusal .ensures) (p1 .if1 .taken) _ (c .refused .ensures)
+    let p5 = p2 .before .before .before in
+    let a = p5 .args in
+    laws.refused (a .settings) (a .self) (a .store .now) (p2 .if1 .taken) _ (p1 .either-number .ensures) _ (c .refused .ensures)
 
 less-requires : tie.Need-less-requires
 less-requires c κs = search needs
@@ -47,10 +47,9 @@ returns-2 c =
     let p4 = p2 .before .before in
     let p5 = p4 .before in
     let p6 = p5 .before in
-    let p7 = p6 .before in
-    let p9 = p7 .before .before in
+    let p9 = p6 .before .before .before in
     let a = p9 .args in
-    laws.good (a .settings) (a .self) (a .store .now) _ (p7 .return-refusal .ensures) (p6 .if1 .left) _ (p5 .less .ensures) _ (p4 .read-frame .ensures .0) _ (p2 .row .given .1) _ (c .close .ensures)
+    laws.good (a .settings) (a .self) (a .store .now) (p6 .if1 .left) _ (p5 .less .ensures) _ (p4 .read-frame .ensures .0) _ (p2 .row .given .1) _ (c .close .ensures)
 
 returns-3 : tie.Need-returns-3
 returns-3 c =
@@ -58,10 +57,9 @@ returns-3 c =
     let p3 = p1 .before .before in
     let p4 = p3 .before in
     let p5 = p4 .before in
-    let p6 = p5 .before in
-    let p8 = p6 .before .before in
+    let p8 = p5 .before .before .before in
     let a = p8 .args in
-    laws.missing (a .settings) (a .self) (a .store .now) _ (p6 .return-refusal .ensures) (p5 .if1 .left) _ (p4 .less .ensures) _ (p3 .read-frame .ensures .0) (p1 .enum-told .given .1) _ (c .refused2 .ensures)
+    laws.missing (a .settings) (a .self) (a .store .now) (p5 .if1 .left) _ (p4 .less .ensures) _ (p3 .read-frame .ensures .0) (p1 .enum-told .given .1) _ (c .refused2 .ensures)
 
 returns-4 : tie.Need-returns-4
 returns-4 c =
@@ -69,16 +67,15 @@ returns-4 c =
     let p3 = p1 .before .before in
     let p4 = p3 .before in
     let p5 = p4 .before in
-    let p6 = p5 .before in
-    let p8 = p6 .before .before in
+    let p8 = p5 .before .before .before in
     let a = p8 .args in
-    laws.not-good (a .settings) (a .self) (a .store .now) _ (p6 .return-refusal .ensures) (p5 .if1 .left) _ (p4 .less .ensures) _ (p3 .read-frame .ensures .0) (p1 .enum-told2 .given .1) _ (c .refused3 .ensures)
+    laws.not-good (a .settings) (a .self) (a .store .now) (p5 .if1 .left) _ (p4 .less .ensures) _ (p3 .read-frame .ensures .0) (p1 .enum-told2 .given .1) _ (c .refused3 .ensures)
 
 pub ret-spec : {M : Type 1} → statement M
 ret-spec =
     tie.close
     (tie.spec
-    return-refusal-requires
+    either-number-requires
     refused-requires
     returns
     less-requires

@@ -9,9 +9,12 @@ update-requires c κs = search needs
 update-pointer-requires : tie.Need-update-pointer-requires
 update-pointer-requires c κs = search needs
 
+apart-requires : tie.Need-apart-requires
+apart-requires c κs = search needs
+
 returns : tie.Need-returns
 unfolding writtenState
 returns c = cc
 
 pub written-spec : {M : Type 1} → statement M
-written-spec = tie.close (tie.spec update-requires update-pointer-requires returns)
+written-spec = tie.close (tie.spec update-requires update-pointer-requires apart-requires returns)

@@ -1,15 +1,9 @@
 use borrow.Author.Needs.{needs}
-use Rattle.rules.proofs.ret.close_refusal.Statement.{statement}
-use Rattle.rules.proofs.ret.close_refusal.Tie as tie
-
-pubdata-after-requires : tie.Need-pubdata-after-requires
-pubdata-after-requires c κs = search needs
+use Rattle.rules.proofs.ret.close_number.Statement.{statement}
+use Rattle.rules.proofs.ret.close_number.Tie as tie
 
 is-outside-requires : tie.Need-is-outside-requires
 is-outside-requires c κs = search needs
-
-counter-after-requires : tie.Need-counter-after-requires
-counter-after-requires c κs = search needs
 
 is-bad-counter-requires : tie.Need-is-bad-counter-requires
 is-bad-counter-requires c κs = search needs
@@ -29,17 +23,13 @@ returns c =
     let p2 = p1 .before in
     let p3 = p2 .before in
     let p4 = p3 .before in
-    let p5 = p4 .before in
-    let p6 = p5 .before in
-    rw (c .first-of .ensures, p5 .is-outside .ensures, p6 .pubdata-after .ensures, p3 .is-bad-counter .ensures, p4 .counter-after .ensures, p2 .ergs-past .ensures, p1 .is-shrunk .ensures)
+    rw (c .first-of .ensures, p4 .is-outside .ensures, p3 .is-bad-counter .ensures, p2 .ergs-past .ensures, p1 .is-shrunk .ensures)
 
-pub close-refusal-spec : {M : Type 1} → statement M
-close-refusal-spec =
+pub close-number-spec : {M : Type 1} → statement M
+close-number-spec =
     tie.close
     (tie.spec
-    pubdata-after-requires
     is-outside-requires
-    counter-after-requires
     is-bad-counter-requires
     ergs-past-requires
     is-shrunk-requires
