@@ -31,7 +31,7 @@ fn record_of(op: Op, price: u32) -> Record
     }
 }
 
-fn input_of(limit: u32, op: Op, price: u32) -> Input
+pub fn input_of(limit: u32, op: Op, price: u32) -> Input
     ensures { λ r. ⌜ r ≡ inputOf limit op price ⌝ }
 {
     let none = registers::empty_word();
@@ -47,7 +47,7 @@ fn input_of(limit: u32, op: Op, price: u32) -> Input
 }
 
 // The request of a line in register 1.
-fn requested(mut state: State, want: u32) -> State
+pub fn requested(mut state: State, want: u32) -> State
     ensures { λ r. ⌜ r ≡ requestedState state want ⌝ }
 {
     let word = stepper::word(want as u64);
