@@ -1,1 +1,2 @@
 pub mod TurnsLaws
+pub mod LineLaws

@@ -3,7 +3,13 @@ ghost use mathlib.Core.Path.{_≡_};
 ghost use mathlib.Core.Bool.{cond};
 ghost use Prim.Native.Nat.{_+_, _%_, _^_, _≤_};
 ghost use Rattle.bench_lines.specs.Bench.{startProgress, cyclesOf, flagsNumber, endOf};
+
+mod line;
+
 use cycle::State;
+pub use line::LINE;
+pub use line::records_of;
+pub use line::want_of;
 use rules::Flags;
 
 // How far a run has come: the sum of the charges, the cycles completed, where the next line begins, and the number of a refusal or 0.
