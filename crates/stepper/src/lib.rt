@@ -51,7 +51,7 @@ pub struct Cycled {
     pub answer: CycleAnswer,
 }
 
-fn fetch_number(answer: FetchAnswer) -> u32
+pub fn fetch_number(answer: FetchAnswer) -> u32
     ensures { λ r. ⌜ r ≡ fetchNumber answer ⌝ }
 {
     match answer {
@@ -62,7 +62,7 @@ fn fetch_number(answer: FetchAnswer) -> u32
     }
 }
 
-fn decode_number(answer: DecodeAnswer) -> u32
+pub fn decode_number(answer: DecodeAnswer) -> u32
     ensures { λ r. ⌜ r ≡ decodeNumber answer ⌝ }
 {
     match answer {
@@ -74,7 +74,7 @@ fn decode_number(answer: DecodeAnswer) -> u32
     }
 }
 
-fn operands_number(answer: OperandsAnswer) -> u32
+pub fn operands_number(answer: OperandsAnswer) -> u32
     ensures { λ r. ⌜ r ≡ operandsNumber answer ⌝ }
 {
     match answer {
@@ -86,7 +86,7 @@ fn operands_number(answer: OperandsAnswer) -> u32
     }
 }
 
-fn execute_number(answer: ExecuteAnswer) -> u32
+pub fn execute_number(answer: ExecuteAnswer) -> u32
     ensures { λ r. ⌜ r ≡ executeNumber answer ⌝ }
 {
     match answer {
@@ -183,7 +183,7 @@ pub fn cycle_number(answer: CycleAnswer) -> u32
     }
 }
 
-fn decode_charge(answer: DecodeAnswer) -> u32
+pub fn decode_charge(answer: DecodeAnswer) -> u32
     ensures { λ r. ⌜ r ≡ decodeCharge answer ⌝ }
 {
     match answer {
