@@ -24,22 +24,19 @@ startProgress ergs = record { state = startState ergs 0; charged = 0; completed 
 abbrev pub nextLine : ℕ → ℕ → ℕ → ℕ
 nextLine width words at = cond (leb (at + 2 * width) words) (at + width) 0
 
--- what a cycle leaves, given the state after it, its refusal's number or 0, and its charge: a refused cycle is not counted
-abbrev pub advanced : Progress → ℕ → State → ℕ → ℕ → Progress
-advanced p at state number charge = record {
-  state = state;
-  charged = (p .charged + charge) % 2 ^ 64;
-  completed = p .completed + cond (eqb number 0) 1 0;
+-- what a cycle leaves, where the next line begins at a position: a refused cycle is not counted
+abbrev pub advanced : Progress → ℕ → Cycled → Progress
+advanced p at c = record {
+  state = c .state;
+  charged = (p .charged + cycleCharge (c .answer)) % 2 ^ 64;
+  completed = p .completed + cond (eqb (cycleNumber (c .answer)) 0) 1 0;
   at = at;
-  number = number;
+  number = cycleNumber (c .answer);
 }
 
--- a cycle through the stepper, from a state and with an input; the line after it begins at a position
-abbrev pub cycleAdvanced : Progress → ℕ → Cycled → Progress
-cycleAdvanced p at c = advanced p at (c .state) (cycleNumber (c .answer)) (cycleCharge (c .answer))
-
+-- a turn: a cycle with an input, from a state
 unfoldable pub cycleTurn : Input → State → ℕ → Bench → Bench
-cycleTurn input s at b = record { progress = cycleAdvanced (b .progress) at (cycleOf input s (b .store)); store = cycleStore input s (b .store) }
+cycleTurn input s at b = record { progress = advanced (b .progress) at (cycleOf input s (b .store)); store = cycleStore input s (b .store) }
 
 -- so many turns; a refusal ends the run
 abbrev pub turns : (Bench → Bench) → ℕ → Bench → Bench

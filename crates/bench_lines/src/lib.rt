@@ -75,7 +75,7 @@ fn flags_number(flags: Flags) -> u64
     less + equal + greater
 }
 
-// Writes what a run is told by.
+// Writes what is told of a run at its end.
 pub fn tell(end: &mut [u64; 8], p: Progress)
     ensures { λ r. ⌜ now (end .exit) ≡ endOf p ⌝ }
 {

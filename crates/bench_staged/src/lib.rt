@@ -18,10 +18,10 @@ use rules::Records;
 use rules::Settings;
 
 // What a cycle gives; the number is that of a refusal, or 0.
-pub struct Outcome {
-    pub state: State,
-    pub number: u32,
-    pub charge: u32,
+struct Outcome {
+    state: State,
+    number: u32,
+    charge: u32,
 }
 
 fn next_line(at: usize, words: usize) -> usize
