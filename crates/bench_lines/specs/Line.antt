@@ -45,8 +45,8 @@ recordFrom line from = record {
 }
 
 -- the three records of a line; less than a whole line has none
-unfoldable pub recordsOf : List ℕ → Records
-recordsOf line =
+unfoldable pub lineRecords : List ℕ → Records
+lineRecords line =
     cond (leb lineWidth (length line))
     (record { plain = recordFrom line 0; panic = recordFrom line 19; nop = recordFrom line 38 })
     (record { plain = noRecord; panic = noRecord; nop = noRecord })

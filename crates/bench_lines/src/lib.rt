@@ -1,8 +1,9 @@
 // What the benchmarks' runs share: how far a run has come, what is told at its end, and the reading of a record.
 ghost use mathlib.Core.Path.{_≡_};
 ghost use mathlib.Core.Bool.{cond};
-ghost use Prim.Native.Nat.{_+_, _%_, _^_, _≤_};
-ghost use Rattle.bench_lines.specs.Bench.{startProgress, cyclesOf, flagsNumber, endOf};
+ghost use Prim.Native.Nat.{_+_, _-_, _%_, _^_, _≤_};
+ghost use lib.Dec.{eqb};
+ghost use Rattle.bench_lines.specs.Bench.{cyclesOf, flagsNumber, endOf};
 
 mod line;
 
@@ -12,26 +13,20 @@ pub use line::records_of;
 pub use line::want_of;
 use rules::Flags;
 
-// How far a run has come: the sum of the charges, the cycles completed, where the next line begins, and the number of a refusal or 0.
+// What a cycle gives; the number is that of a refusal, or 0.
+pub struct CycleOutcome {
+    pub state: State,
+    pub number: u32,
+    pub charge: u32,
+}
+
+// How far a run has come: the sum of the charges, the cycles begun, where the next line begins, and the number of a refusal or 0.
 pub struct Progress {
     pub state: State,
     pub charged: u64,
-    pub completed: u64,
+    pub begun: u64,
     pub at: usize,
     pub number: u32,
-}
-
-pub fn start_progress(ergs: u32) -> Progress
-    ensures { λ r. ⌜ r ≡ startProgress ergs ⌝ }
-{
-    let state = stepper::start_state(ergs, 0);
-    Progress {
-        state,
-        charged: 0,
-        completed: 0,
-        at: 0,
-        number: 0,
-    }
 }
 
 // The cycles to run: none where there is no whole line.
@@ -75,6 +70,17 @@ fn flags_number(flags: Flags) -> u64
     less + equal + greater
 }
 
+// A loop that counts each cycle it begins needs no test; the one that was refused comes off here.
+fn completed_of(begun: u64, number: u32) -> u64
+    ensures { λ r. ⌜ r ≡ begun - cond (eqb number 0) 0 1 ⌝ }
+{
+    if (number == 0) | (begun == 0) {
+        begun
+    } else {
+        begun - 1
+    }
+}
+
 // Writes what is told of a run at its end.
 pub fn tell(end: &mut [u64; 8], p: Progress)
     ensures { λ r. ⌜ now (end .exit) ≡ endOf p ⌝ }
@@ -82,7 +88,7 @@ pub fn tell(end: &mut [u64; 8], p: Progress)
     let flags = p.state.flags;
     *end = [
         wide(p.number),
-        p.completed,
+        completed_of(p.begun, p.number),
         wide(p.state.current.ergs_remaining),
         wide(p.state.depth),
         wide_pc(p.state.current.pc),

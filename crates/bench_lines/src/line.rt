@@ -2,7 +2,7 @@
 ghost use mathlib.Core.Path.{_≡_};
 ghost use Prim.Native.Nat.{_+_, _%_, _^_, _≤_, _<_};
 ghost use lib.ListN.{length, getD};
-ghost use Rattle.bench_lines.specs.Line.{isSet, recordFrom, recordsOf, wantOf};
+ghost use Rattle.bench_lines.specs.Line.{isSet, recordFrom, lineRecords, wantOf};
 use rules::Record;
 use rules::Records;
 
@@ -66,7 +66,7 @@ fn record_from(line: &[u64], from: usize) -> Record
 
 // A line that is lent with a length known to the compiler is read with no test.
 pub fn records_of(line: &[u64]) -> Records
-    ensures { λ r. ⌜ r ≡ recordsOf (now (line .entry)) ⌝ }
+    ensures { λ r. ⌜ r ≡ lineRecords (now (line .entry)) ⌝ }
 {
     if line.len() < LINE {
         let none = stepper::instruction(0, 0, 0, 0, 0, 0, 0, 0, 0, 0, false);

@@ -8,21 +8,21 @@ use Rattle.table.specs.declared.Op.{Op}
 use Rattle.runs.specs.Run.{inputOf, requestedState}
 use Rattle.bench_lines.specs.Bench.{Bench, nextLine, cycleTurn, runOf}
 
-abbrev pub lineWidth : ℕ
-lineWidth = 3
+abbrev pub listingWidth : ℕ
+listingWidth = 3
 
 -- 0 add, 1 call, 2 return ok, 3 return revert, anything else return panic
-abbrev pub opOf : ℕ → Op
-opOf n = cond (eqb n 0) Op.Add (cond (eqb n 1) Op.Call (cond (eqb n 2) Op.Ok (cond (eqb n 3) Op.Revert Op.Panic)))
+abbrev pub opNumbered : ℕ → Op
+opNumbered n = cond (eqb n 0) Op.Add (cond (eqb n 1) Op.Call (cond (eqb n 2) Op.Ok (cond (eqb n 3) Op.Revert Op.Panic)))
 
 -- a line's cycle, as nearbook's: the want in register 1
 unfoldable pub listingTurn : List ℕ → ℕ → Bench → Bench
 listingTurn lines limit b =
     cycleTurn
-    (inputOf limit (opOf (getD lines (b .progress .at) 0)) (getD lines (b .progress .at + 1) 0))
+    (inputOf limit (opNumbered (getD lines (b .progress .at) 0)) (getD lines (b .progress .at + 1) 0))
     (requestedState (b .progress .state) (getD lines (b .progress .at + 2) 0))
-    (nextLine lineWidth (length lines) (b .progress .at))
+    (nextLine listingWidth (length lines) (b .progress .at))
     b
 
 unfoldable pub listingRun : List ℕ → ℕ → ℕ → ℕ → List ℕ → Bench
-listingRun lines limit ergs cycles store = runOf (listingTurn lines limit) lineWidth (length lines) cycles ergs store
+listingRun lines limit ergs cycles store = runOf (listingTurn lines limit) listingWidth (length lines) cycles ergs store

@@ -1,18 +1,19 @@
 // Cycles of a listing's lines in memory, for a benchmark: each line is an op, a price and a want.
 ghost use mathlib.Core.Path.{_≡_};
-ghost use mathlib.Core.Bool.{cond};
-ghost use Prim.Native.Nat.{_+_, _≤_, _<_, _^_};
-ghost use lib.Dec.{eqb};
-ghost use lib.ListN.{length};
-ghost use Rattle.bench_lines.specs.Bench.{nextLine, endOf};
-ghost use Rattle.bench_listing.specs.Listing.{lineWidth, opOf, listingTurn, listingRun};
+ghost use Prim.Native.Nat.{_+_, _≤_};
+ghost use Rattle.stepper.specs.Cycle.{cycleOf, cycleStore};
+ghost use Rattle.runs.specs.Run.{inputOf, requestedState};
+ghost use Rattle.bench_lines.specs.Bench.{nextLine, cycleOutcome, endOf};
+ghost use Rattle.bench_listing.specs.Listing.{listingWidth, opNumbered, listingRun};
+use bench_lines::CycleOutcome;
 use bench_lines::Progress;
+use cycle::State;
 use table::Op;
 
 const WIDTH: usize = 3;
 
 fn op_of(n: u32) -> Op
-    ensures { λ r. ⌜ r ≡ opOf n ⌝ }
+    ensures { λ r. ⌜ r ≡ opNumbered n ⌝ }
 {
     match n {
         0 => Op::Add,
@@ -24,48 +25,31 @@ fn op_of(n: u32) -> Op
 }
 
 fn next_line(at: usize, words: usize) -> usize
-    requires { ⌜ at + lineWidth ≤ words ⌝ }
-    ensures { λ r. ⌜ r ≡ nextLine lineWidth words at ⌝ }
+    requires { ⌜ at + listingWidth ≤ words ⌝ }
+    ensures { λ r. ⌜ r ≡ nextLine listingWidth words at ⌝ }
 {
     let after = at + WIDTH;
     if words - after < WIDTH { 0 } else { after }
 }
 
-fn counted(completed: u64, number: u32) -> u64
-    requires { ⌜ completed + 1 < 2 ^ 64 ⌝ }
-    ensures { λ r. ⌜ r ≡ completed + cond (eqb number 0) 1 0 ⌝ }
+// A line's cycle, as nearbook's: the want in register 1.
+fn step(state: State, op: Op, price: u32, want: u32, limit: u32, store: &mut [u32]) -> CycleOutcome
+    ensures { λ r. ⌜ (r ≡ cycleOutcome (cycleOf (inputOf limit op price) (requestedState state want) (now (store .entry))))
+        × (now (store .exit) ≡ cycleStore (inputOf limit op price) (requestedState state want) (now (store .entry))) ⌝ }
 {
-    if number == 0 {
-        completed + 1
-    } else {
-        completed
-    }
-}
-
-// Runs the next line.
-fn step(p: Progress, lines: &[u32], limit: u32, store: &mut [u32]) -> Progress
-    requires { ⌜ (p .at + lineWidth ≤ length (now lines)) × (p .completed + 1 < 2 ^ 64) ⌝ }
-    ensures { λ r. ⌜ (r ≡ listingTurn (now (lines .entry)) limit (record { progress = p; store = now (store .entry) }) .progress)
-        × (now (store .exit) ≡ listingTurn (now (lines .entry)) limit (record { progress = p; store = now (store .entry) }) .store) ⌝ }
-{
-    let at = p.at;
-    let state = p.state;
-    let input = runs::input_of(limit, op_of(lines[at]), lines[at + 1]);
-    let given = runs::requested(state, lines[at + 2]);
+    let input = runs::input_of(limit, op, price);
+    let given = runs::requested(state, want);
     let cycled = stepper::cycle(given, input, store);
     let answer = cycled.answer;
     let after = cycled.state;
-    let number = stepper::cycle_number(answer);
-    let charge = stepper::cycle_charge(answer);
-    Progress {
+    CycleOutcome {
         state: after,
-        charged: bench_lines::charged_after(p.charged, charge),
-        completed: counted(p.completed, number),
-        at: next_line(at, lines.len()),
-        number,
+        number: stepper::cycle_number(answer),
+        charge: stepper::cycle_charge(answer),
     }
 }
 
+// The locals of the loop are plain, and the next line is found before the cycle: either costs a quarter of the time otherwise.
 #[no_mangle]
 pub extern "C" fn bench_listing(
     lines: &[u32],
@@ -79,9 +63,29 @@ pub extern "C" fn bench_listing(
         × (now (end .exit) ≡ endOf (listingRun (now (lines .entry)) limit ergs cycles (now (store .entry)) .progress)) ⌝ }
 {
     let count = bench_lines::cycles_of(WIDTH, lines.len(), cycles);
-    let mut p = bench_lines::start_progress(ergs);
-    while (p.number == 0) & (p.completed < count) {
-        p = step(p, lines, limit, store);
+    let mut state = stepper::start_state(ergs, 0);
+    let mut at: usize = 0;
+    let mut begun: u64 = 0;
+    let mut charged: u64 = 0;
+    let mut number: u32 = 0;
+    while (number == 0) & (begun < count) {
+        let op = op_of(lines[at]);
+        let price = lines[at + 1];
+        let want = lines[at + 2];
+        at = next_line(at, lines.len());
+        let ran = step(state, op, price, want, limit, store);
+        let after = ran.state;
+        number = ran.number;
+        charged = bench_lines::charged_after(charged, ran.charge);
+        begun = begun + 1;
+        state = after;
     }
+    let p = Progress {
+        state,
+        charged,
+        begun,
+        at,
+        number,
+    };
     bench_lines::tell(end, p);
 }
