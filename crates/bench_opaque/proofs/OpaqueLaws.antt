@@ -1,10 +1,8 @@
 -- A line's cycle: from what its parts give to its turn. Assumes nothing.
 use Prim.Native.Nat.{ℕ, _+_, _-_, _%_, _^_}
-use mathlib.Core.Bool.{cond}
 use mathlib.Core.Path.{_≡_, refl}
 use mathlib.Core.List.{List}
 use native.Mathlib.Omega.{arith}
-use lib.Dec.{eqb}
 use lib.ListN.{length, take, drop}
 use Rattle.u256.specs.declared.U256.{U256}
 use Rattle.cycle.specs.declared.State.{State}
@@ -12,44 +10,45 @@ use Rattle.stepper.specs.declared.Input.{Input}
 use Rattle.stepper.specs.declared.Cycled.{Cycled}
 use Rattle.stepper.specs.Cycle.{cycleOf, cycleStore, cycleNumber, cycleCharge}
 use Rattle.runs.specs.Run.{requestedState}
+use Rattle.bench_lines.specs.declared.CycleOutcome.{CycleOutcome}
 use Rattle.bench_lines.specs.declared.Progress.{Progress}
-use Rattle.bench_lines.specs.Bench.{Bench, nextLine, cycleTurn}
+use Rattle.bench_lines.specs.Bench.{Bench, nextLine, cycleOutcome, cycleTurn}
 use Rattle.bench_lines.specs.Line.{lineWidth, wantOf}
 use Rattle.bench_lines.proofs.TurnsLaws as turns
 use Rattle.bench_opaque.specs.Opaque.{opaqueInput, opaqueTurn}
+
+-- a cycle gave this outcome and store
+abbrev pub Gave : List ℕ → U256 → U256 → ℕ → State → List ℕ → CycleOutcome → List ℕ → Type 0
+Gave line code source limit s store r store′ =
+    (r ≡ cycleOutcome (cycleOf (opaqueInput line code source limit) (requestedState s (wantOf line)) store))
+    × (store′ ≡ cycleStore (opaqueInput line code source limit) (requestedState s (wantOf line)) store)
+
+pub gave : (line : List ℕ) (code source : U256) (limit : ℕ) (s : State) (store : List ℕ) (input : Input) → input ≡ opaqueInput line code source limit
+    → (want : ℕ) → want ≡ wantOf line
+    → (given : State) → given ≡ requestedState s want
+    → (c : Cycled) (store′ : List ℕ) → (c ≡ cycleOf input given store) × (store′ ≡ cycleStore input given store)
+    → (n : ℕ) → n ≡ cycleNumber (c .answer)
+    → (charge : ℕ) → charge ≡ cycleCharge (c .answer)
+    → Gave line code source limit s store (record { state = c .state; number = n; charge = charge }) store′
+gave line code source limit s store input ei want ew given eg c store′ ec n en charge eh =
+    rw (← ei, ← ew, ← eg, ← ec .0, ← ec .1, en, eh) (refl, refl)
 
 -- the line that is lent
 abbrev lent : List ℕ → ℕ → List ℕ
 lent lines at = take (at + lineWidth - at) (drop at lines)
 
-module _ (lines : List ℕ) (code source : U256) (limit : ℕ) (p : Progress) (store : List ℕ) where
-  -- a turn gave this progress and store
-  abbrev pub Turned : Progress → List ℕ → Type 0
-  Turned q store′ =
-      (q ≡ opaqueTurn lines code source limit (record { progress = p; store = store }) .progress)
-      × (store′ ≡ opaqueTurn lines code source limit (record { progress = p; store = store }) .store)
-
-  pub turned : (input : Input) → input ≡ opaqueInput (lent lines (p .at)) code source limit
-      → (want : ℕ) → want ≡ wantOf (lent lines (p .at))
-      → (given : State) → given ≡ requestedState (p .state) want
-      → (c : Cycled) (store′ : List ℕ) → (c ≡ cycleOf input given store) × (store′ ≡ cycleStore input given store)
-      → (n : ℕ) → n ≡ cycleNumber (c .answer)
-      → (charge : ℕ) → charge ≡ cycleCharge (c .answer)
-      → (sum : ℕ) → sum ≡ (p .charged + charge) % 2 ^ 64
-      → (completed : ℕ) → completed ≡ p .completed + cond (eqb n 0) 1 0
-      → (at : ℕ) → at ≡ nextLine lineWidth (length lines) (p .at)
-      → Turned (record { state = c .state; charged = sum; completed = completed; at = at; number = n }) store′
-  unfolding opaqueTurn
-  turned input ei want ew given eg c store′ ec n en charge eh sum es completed ek at ea =
-      rw (← (rw k at ei), ← (rw k at ew), ← eg, ← ea) (turns.cycled p store input given at c store′ ec n en charge eh sum es completed ek)
-    where
-      k : p .at + lineWidth - p .at ≡ lineWidth
-      k = omega arith
-
-  -- a turn as one equation
-  pub whole : (q : Progress) (store′ : List ℕ) → Turned q store′
-      → _≡_ {A = Bench} (record { progress = q; store = store′ }) (opaqueTurn lines code source limit (record { progress = p; store = store }))
-  whole q store′ e = rw (e .0, e .1)
+pub turned : (lines : List ℕ) (code source : U256) (limit : ℕ) (p : Progress) (store : List ℕ) (at : ℕ) → at ≡ nextLine lineWidth (length lines) (p .at)
+    → (r : CycleOutcome) (store′ : List ℕ) → Gave (lent lines (p .at)) code source limit (p .state) store r store′
+    → (sum : ℕ) → sum ≡ (p .charged + r .charge) % 2 ^ 64
+    → _≡_ {A = Bench} (record { progress = record { state = r .state; charged = sum; begun = p .begun + 1; at = at; number = r .number }; store = store′ })
+    (opaqueTurn lines code source limit (record { progress = p; store = store }))
+unfolding opaqueTurn
+turned lines code source limit p store at ea r store′ e sum es =
+    let line = take lineWidth (drop (p .at) lines) in
+    rw (← ea) (turns.cycled p store (opaqueInput line code source limit) (requestedState (p .state) (wantOf line)) at r store′ (rw k at e) sum es)
+  where
+    k : p .at + lineWidth - p .at ≡ lineWidth
+    k = omega arith
 
 pub counts : (lines : List ℕ) (code source : U256) (limit : ℕ) → turns.Counts (opaqueTurn lines code source limit) lineWidth (length lines)
 unfolding opaqueTurn cycleTurn

@@ -8,11 +8,11 @@ use Rattle.stepper.specs.declared.Input.{Input}
 use Rattle.stepper.specs.Start.{settingsOf}
 use Rattle.runs.specs.Run.{requestedState}
 use Rattle.bench_lines.specs.Bench.{Bench, nextLine, cycleTurn, runOf}
-use Rattle.bench_lines.specs.Line.{lineWidth, lineAt, recordsOf, wantOf, wordAt}
+use Rattle.bench_lines.specs.Line.{lineWidth, lineAt, lineRecords, wantOf, wordAt}
 
 -- what a line's cycle is given
 unfoldable pub opaqueInput : List ℕ → U256 → U256 → ℕ → Input
-opaqueInput line code source limit = record { code = code; source = source; settings = settingsOf limit 1; records = recordsOf line; pointer = false }
+opaqueInput line code source limit = record { code = code; source = source; settings = settingsOf limit 1; records = lineRecords line; pointer = false }
 
 -- a line's cycle, with its want in register 1
 unfoldable pub opaqueTurn : List ℕ → U256 → U256 → ℕ → Bench → Bench

@@ -1,14 +1,15 @@
 // Cycles of any records in memory, for a benchmark: each line is three records and a want. The code word and the source word are the same in every cycle.
 ghost use mathlib.Core.Path.{_≡_};
-ghost use mathlib.Core.Bool.{cond};
-ghost use Prim.Native.Nat.{_+_, _≤_, _<_, _^_};
-ghost use lib.Dec.{eqb};
-ghost use lib.ListN.{length};
-ghost use Rattle.bench_lines.specs.Bench.{nextLine, endOf};
-ghost use Rattle.bench_lines.specs.Line.{lineWidth, wordAt};
-ghost use Rattle.bench_opaque.specs.Opaque.{opaqueInput, opaqueTurn, opaqueRun};
+ghost use Prim.Native.Nat.{_+_, _≤_};
+ghost use Rattle.stepper.specs.Cycle.{cycleOf, cycleStore};
+ghost use Rattle.runs.specs.Run.{requestedState};
+ghost use Rattle.bench_lines.specs.Bench.{nextLine, cycleOutcome, endOf};
+ghost use Rattle.bench_lines.specs.Line.{lineWidth, wantOf, wordAt};
+ghost use Rattle.bench_opaque.specs.Opaque.{opaqueInput, opaqueRun};
+use bench_lines::CycleOutcome;
 use bench_lines::LINE;
 use bench_lines::Progress;
+use cycle::State;
 use stepper::Input;
 use u256::U256;
 
@@ -18,17 +19,6 @@ fn next_line(at: usize, words: usize) -> usize
 {
     let after = at + LINE;
     if words - after < LINE { 0 } else { after }
-}
-
-fn counted(completed: u64, number: u32) -> u64
-    requires { ⌜ completed + 1 < 2 ^ 64 ⌝ }
-    ensures { λ r. ⌜ r ≡ completed + cond (eqb number 0) 1 0 ⌝ }
-{
-    if number == 0 {
-        completed + 1
-    } else {
-        completed
-    }
 }
 
 fn word_of(words: &[u64; 4]) -> U256
@@ -56,38 +46,31 @@ fn input_of(line: &[u64], code: U256, source: U256, limit: u32) -> Input
     }
 }
 
-// Runs the next line.
+// A line's cycle, with its want in register 1.
 fn step(
-    p: Progress,
-    lines: &[u64],
+    state: State,
+    line: &[u64],
     code: U256,
     source: U256,
     limit: u32,
     store: &mut [u32],
-) -> Progress
-    requires { ⌜ (p .at + lineWidth ≤ length (now lines)) × (p .completed + 1 < 2 ^ 64) ⌝ }
-    ensures { λ r. ⌜ (r ≡ opaqueTurn (now (lines .entry)) code source limit (record { progress = p; store = now (store .entry) }) .progress)
-        × (now (store .exit) ≡ opaqueTurn (now (lines .entry)) code source limit (record { progress = p; store = now (store .entry) }) .store) ⌝ }
+) -> CycleOutcome
+    ensures { λ r. ⌜ (r ≡ cycleOutcome (cycleOf (opaqueInput (now (line .entry)) code source limit) (requestedState state (wantOf (now (line .entry)))) (now (store .entry))))
+        × (now (store .exit) ≡ cycleStore (opaqueInput (now (line .entry)) code source limit) (requestedState state (wantOf (now (line .entry)))) (now (store .entry))) ⌝ }
 {
-    let at = p.at;
-    let state = p.state;
-    let end = at + LINE;
-    let input = input_of(&lines[at..end], code, source, limit);
-    let given = runs::requested(state, bench_lines::want_of(&lines[at..end]));
+    let input = input_of(line, code, source, limit);
+    let given = runs::requested(state, bench_lines::want_of(line));
     let cycled = stepper::cycle(given, input, store);
     let answer = cycled.answer;
     let after = cycled.state;
-    let number = stepper::cycle_number(answer);
-    let charge = stepper::cycle_charge(answer);
-    Progress {
+    CycleOutcome {
         state: after,
-        charged: bench_lines::charged_after(p.charged, charge),
-        completed: counted(p.completed, number),
-        at: next_line(at, lines.len()),
-        number,
+        number: stepper::cycle_number(answer),
+        charge: stepper::cycle_charge(answer),
     }
 }
 
+// The locals of the loop are plain, and the next line is found before the cycle: either costs a quarter of the time otherwise.
 #[no_mangle]
 pub extern "C" fn bench_opaque(
     lines: &[u64],
@@ -105,9 +88,34 @@ pub extern "C" fn bench_opaque(
     let code_word = word_of(code);
     let source_word = word_of(source);
     let count = bench_lines::cycles_of(LINE, lines.len(), cycles);
-    let mut p = bench_lines::start_progress(ergs);
-    while (p.number == 0) & (p.completed < count) {
-        p = step(p, lines, code_word, source_word, limit, store);
+    let mut state = stepper::start_state(ergs, 0);
+    let mut at: usize = 0;
+    let mut begun: u64 = 0;
+    let mut charged: u64 = 0;
+    let mut number: u32 = 0;
+    while (number == 0) & (begun < count) {
+        let here = at;
+        at = next_line(here, lines.len());
+        let ran = step(
+            state,
+            &lines[here..here + LINE],
+            code_word,
+            source_word,
+            limit,
+            store,
+        );
+        let after = ran.state;
+        number = ran.number;
+        charged = bench_lines::charged_after(charged, ran.charge);
+        begun = begun + 1;
+        state = after;
     }
+    let p = Progress {
+        state,
+        charged,
+        begun,
+        at,
+        number,
+    };
     bench_lines::tell(end, p);
 }
