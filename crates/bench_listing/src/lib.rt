@@ -49,7 +49,7 @@ fn step(state: State, op: Op, price: u32, want: u32, limit: u32, store: &mut [u3
     }
 }
 
-// The locals of the loop are plain, and the next line is found before the cycle: either costs a quarter of the time otherwise.
+// Plain locals, and the next line found before the cycle: each done otherwise takes a quarter more time.
 #[no_mangle]
 pub extern "C" fn bench_listing(
     lines: &[u32],

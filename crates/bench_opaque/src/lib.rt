@@ -70,7 +70,7 @@ fn step(
     }
 }
 
-// The locals of the loop are plain, and the next line is found before the cycle: either costs a quarter of the time otherwise.
+// Plain locals, and the next line found before the cycle: each done otherwise takes a quarter more time.
 #[no_mangle]
 pub extern "C" fn bench_opaque(
     lines: &[u64],

@@ -11,15 +11,15 @@ use Rattle.cycle.specs.declared.OperandsAnswer.{OperandsAnswer}
 use Rattle.bench_lines.specs.Line.{wordAt}
 
 -- the word of an index: four words of 64 bits make one, and after the last whole one comes the first again; less than one is the empty word
-abbrev pub wordOf : List ℕ → ℕ → U256
-wordOf words index = cond (leb 4 (length words)) (wordAt words (index % (length words / 4) * 4)) emptyWord
+abbrev pub wordIndexed : List ℕ → ℕ → U256
+wordIndexed words index = cond (leb 4 (length words)) (wordAt words (index % (length words / 4) * 4)) emptyWord
 
 -- the word at a location, the empty word where there is none
-abbrev pub readOf : List ℕ → Location → U256
-readOf words Location.None = emptyWord
-readOf words (Location.At kind page index) = wordOf words index
+abbrev pub wordRead : List ℕ → Location → U256
+wordRead words Location.None = emptyWord
+wordRead words (Location.At kind page index) = wordIndexed words index
 
 -- the source location that operands tells
-abbrev pub sourceOf : OperandsAnswer → Location
-sourceOf (OperandsAnswer.Done source destination) = source
-sourceOf (OperandsAnswer.Refused n) = Location.None
+abbrev pub sourceTold : OperandsAnswer → Location
+sourceTold (OperandsAnswer.Done source destination) = source
+sourceTold (OperandsAnswer.Refused n) = Location.None

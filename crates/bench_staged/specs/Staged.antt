@@ -10,36 +10,32 @@ use Rattle.rules.specs.declared.Settings.{Settings}
 use Rattle.cycle.specs.declared.State.{State}
 use Rattle.cycle.specs.Fetch.{queryOf}
 use Rattle.stepper.specs.declared.Input.{Input}
-use Rattle.stepper.specs.declared.Cycled.{Cycled}
 use Rattle.stepper.specs.Start.{settingsOf}
-use Rattle.stepper.specs.Cycle.{operandsIn, cycleNumber, cycleCharge}
+use Rattle.stepper.specs.Cycle.{operandsIn}
 use Rattle.runs.specs.Run.{requestedState}
+use Rattle.bench_lines.specs.declared.CycleOutcome.{CycleOutcome}
 use Rattle.bench_lines.specs.Bench.{Bench, nextLine, cycleTurn, runOf}
-use Rattle.bench_lines.specs.Line.{lineWidth, lineAt, recordsOf, wantOf}
-use Rattle.bench_staged.specs.declared.Outcome.{Outcome}
-use Rattle.bench_staged.specs.Memory.{readOf, sourceOf}
+use Rattle.bench_lines.specs.Line.{lineWidth, lineAt, lineRecords, wantOf}
+use Rattle.bench_staged.specs.Memory.{wordRead, sourceTold}
 
 -- what a cycle is given up to operands, with a source word
 abbrev pub inputWith : Settings → Records → List ℕ → State → U256 → Input
-inputWith settings records words s source = record { code = readOf words (queryOf s); source = source; settings = settings; records = records; pointer = false }
+inputWith settings records words s source = record { code = wordRead words (queryOf s); source = source; settings = settings; records = records; pointer = false }
 
 -- what a cycle is given: operands, which is given no source word, says where that is
 unfoldable pub stagedInput : Settings → Records → List ℕ → State → List ℕ → Input
 stagedInput settings records words s store =
-    inputWith settings records words s (readOf words (sourceOf (operandsIn (inputWith settings records words s emptyWord) s store .answer)))
+    inputWith settings records words s (wordRead words (sourceTold (operandsIn (inputWith settings records words s emptyWord) s store .answer)))
 
--- what is kept of a cycle: the state, the refusal's number or 0, and the charge
-abbrev pub outcomeOf : Cycled → Outcome
-outcomeOf c = record { state = c .state; number = cycleNumber (c .answer); charge = cycleCharge (c .answer) }
-
-abbrev pub refusedWith : State → ℕ → Outcome
-refusedWith s number = record { state = s; number = number; charge = 0 }
+-- what a refused cycle gives
+abbrev pub refusedOutcome : State → ℕ → CycleOutcome
+refusedOutcome s number = record { state = s; number = number; charge = 0 }
 
 -- a cycle from a state, of the line at a position
 abbrev pub turnFrom : List ℕ → List ℕ → ℕ → State → Bench → Bench
 turnFrom lines words limit s b =
     cycleTurn
-    (stagedInput (settingsOf limit 1) (recordsOf (lineAt lines (b .progress .at))) words s (b .store))
+    (stagedInput (settingsOf limit 1) (lineRecords (lineAt lines (b .progress .at))) words s (b .store))
     s
     (nextLine lineWidth (length lines) (b .progress .at))
     b

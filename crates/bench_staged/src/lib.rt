@@ -1,28 +1,21 @@
 // Cycles whose stages are called one by one, for a benchmark, as one who serves a contract calls them: the code query and the source location are answered from a memory.
 ghost use mathlib.Core.Path.{_≡_};
-ghost use mathlib.Core.Bool.{cond};
-ghost use Prim.Native.Nat.{_+_, _≤_, _<_, _^_};
-ghost use lib.Dec.{eqb};
-ghost use lib.ListN.{length};
+ghost use Prim.Native.Nat.{_+_, _≤_};
+ghost use Rattle.stepper.specs.Start.{settingsOf};
 ghost use Rattle.stepper.specs.Cycle.{cycleOf, cycleStore};
-ghost use Rattle.bench_lines.specs.Bench.{nextLine, endOf};
-ghost use Rattle.bench_lines.specs.Line.{lineWidth};
-ghost use Rattle.bench_staged.specs.Staged.{refusedWith, outcomeOf, stagedInput, stagedTurn, stagedRun};
+ghost use Rattle.runs.specs.Run.{requestedState};
+ghost use Rattle.bench_lines.specs.Bench.{nextLine, cycleOutcome, endOf};
+ghost use Rattle.bench_lines.specs.Line.{lineWidth, lineRecords, wantOf};
+ghost use Rattle.bench_staged.specs.Staged.{refusedOutcome, stagedInput, stagedRun};
 
 mod memory;
 
+use bench_lines::CycleOutcome;
 use bench_lines::LINE;
 use bench_lines::Progress;
 use cycle::State;
 use rules::Records;
 use rules::Settings;
-
-// What a cycle gives; the number is that of a refusal, or 0.
-struct Outcome {
-    state: State,
-    number: u32,
-    charge: u32,
-}
 
 fn next_line(at: usize, words: usize) -> usize
     requires { ⌜ at + lineWidth ≤ words ⌝ }
@@ -32,21 +25,10 @@ fn next_line(at: usize, words: usize) -> usize
     if words - after < LINE { 0 } else { after }
 }
 
-fn counted(completed: u64, number: u32) -> u64
-    requires { ⌜ completed + 1 < 2 ^ 64 ⌝ }
-    ensures { λ r. ⌜ r ≡ completed + cond (eqb number 0) 1 0 ⌝ }
+fn refused(state: State, number: u32) -> CycleOutcome
+    ensures { λ r. ⌜ r ≡ refusedOutcome state number ⌝ }
 {
-    if number == 0 {
-        completed + 1
-    } else {
-        completed
-    }
-}
-
-fn refused(state: State, number: u32) -> Outcome
-    ensures { λ r. ⌜ r ≡ refusedWith state number ⌝ }
-{
-    Outcome {
+    CycleOutcome {
         state,
         number,
         charge: 0,
@@ -60,8 +42,8 @@ fn staged(
     records: Records,
     words: &[u64],
     store: &mut [u32],
-) -> Outcome
-    ensures { λ r. ⌜ (r ≡ outcomeOf (cycleOf (stagedInput settings records (now (words .entry)) state (now (store .entry))) state (now (store .entry))))
+) -> CycleOutcome
+    ensures { λ r. ⌜ (r ≡ cycleOutcome (cycleOf (stagedInput settings records (now (words .entry)) state (now (store .entry))) state (now (store .entry))))
         × (now (store .exit) ≡ cycleStore (stagedInput settings records (now (words .entry)) state (now (store .entry))) state (now (store .entry))) ⌝ }
 {
     let code = memory::read(words, state.code_query());
@@ -94,36 +76,25 @@ fn staged(
     if n3 != 0 {
         return refused(after, n3);
     }
-    Outcome {
+    CycleOutcome {
         state: after,
         number: 0,
         charge: stepper::decode_charge(decode),
     }
 }
 
-// Runs the next line.
-fn step(p: Progress, lines: &[u64], words: &[u64], limit: u32, store: &mut [u32]) -> Progress
-    requires { ⌜ (p .at + lineWidth ≤ length (now lines)) × (p .completed + 1 < 2 ^ 64) ⌝ }
-    ensures { λ r. ⌜ (r ≡ stagedTurn (now (lines .entry)) (now (words .entry)) limit (record { progress = p; store = now (store .entry) }) .progress)
-        × (now (store .exit) ≡ stagedTurn (now (lines .entry)) (now (words .entry)) limit (record { progress = p; store = now (store .entry) }) .store) ⌝ }
+// A line's cycle, with its want in register 1.
+fn step(state: State, line: &[u64], words: &[u64], limit: u32, store: &mut [u32]) -> CycleOutcome
+    ensures { λ r. ⌜ (r ≡ cycleOutcome (cycleOf (stagedInput (settingsOf limit 1) (lineRecords (now (line .entry))) (now (words .entry)) (requestedState state (wantOf (now (line .entry)))) (now (store .entry))) (requestedState state (wantOf (now (line .entry)))) (now (store .entry))))
+        × (now (store .exit) ≡ cycleStore (stagedInput (settingsOf limit 1) (lineRecords (now (line .entry))) (now (words .entry)) (requestedState state (wantOf (now (line .entry)))) (now (store .entry))) (requestedState state (wantOf (now (line .entry)))) (now (store .entry))) ⌝ }
 {
-    let at = p.at;
-    let state = p.state;
-    let end = at + LINE;
     let settings = stepper::settings_of(limit, 1);
-    let records = bench_lines::records_of(&lines[at..end]);
-    let given = runs::requested(state, bench_lines::want_of(&lines[at..end]));
-    let ran = staged(given, settings, records, words, store);
-    let after = ran.state;
-    Progress {
-        state: after,
-        charged: bench_lines::charged_after(p.charged, ran.charge),
-        completed: counted(p.completed, ran.number),
-        at: next_line(at, lines.len()),
-        number: ran.number,
-    }
+    let records = bench_lines::records_of(line);
+    let given = runs::requested(state, bench_lines::want_of(line));
+    staged(given, settings, records, words, store)
 }
 
+// Plain locals, and the next line found before the cycle: each done otherwise takes a quarter more time.
 #[no_mangle]
 pub extern "C" fn bench_staged(
     lines: &[u64],
@@ -138,9 +109,27 @@ pub extern "C" fn bench_staged(
         × (now (end .exit) ≡ endOf (stagedRun (now (lines .entry)) (now (words .entry)) limit ergs cycles (now (store .entry)) .progress)) ⌝ }
 {
     let count = bench_lines::cycles_of(LINE, lines.len(), cycles);
-    let mut p = bench_lines::start_progress(ergs);
-    while (p.number == 0) & (p.completed < count) {
-        p = step(p, lines, words, limit, store);
+    let mut state = stepper::start_state(ergs, 0);
+    let mut at: usize = 0;
+    let mut begun: u64 = 0;
+    let mut charged: u64 = 0;
+    let mut number: u32 = 0;
+    while (number == 0) & (begun < count) {
+        let here = at;
+        at = next_line(here, lines.len());
+        let ran = step(state, &lines[here..here + LINE], words, limit, store);
+        let after = ran.state;
+        number = ran.number;
+        charged = bench_lines::charged_after(charged, ran.charge);
+        begun = begun + 1;
+        state = after;
     }
+    let p = Progress {
+        state,
+        charged,
+        begun,
+        at,
+        number,
+    };
     bench_lines::tell(end, p);
 }

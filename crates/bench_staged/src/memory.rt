@@ -1,7 +1,7 @@
 // The memory that answers the code query and the source location: four words of 64 bits make one word.
 ghost use mathlib.Core.Path.{_≡_};
 ghost use Prim.Native.Nat.{_+_, _*_, _/_, _%_, _≤_};
-ghost use Rattle.bench_staged.specs.Memory.{wordOf, readOf, sourceOf};
+ghost use Rattle.bench_staged.specs.Memory.{wordIndexed, wordRead, sourceTold};
 use cycle::OperandsAnswer;
 use rules::Location;
 use u256::U256;
@@ -15,7 +15,7 @@ fn place_of(index: u32, words: usize) -> usize
 }
 
 fn word_of(words: &[u64], index: u32) -> U256
-    ensures { λ r. ⌜ r ≡ wordOf (now (words .entry)) index ⌝ }
+    ensures { λ r. ⌜ r ≡ wordIndexed (now (words .entry)) index ⌝ }
 {
     if words.len() < 4 {
         return registers::empty_word();
@@ -30,7 +30,7 @@ fn word_of(words: &[u64], index: u32) -> U256
 }
 
 pub fn read(words: &[u64], location: Location) -> U256
-    ensures { λ r. ⌜ r ≡ readOf (now (words .entry)) location ⌝ }
+    ensures { λ r. ⌜ r ≡ wordRead (now (words .entry)) location ⌝ }
 {
     match location {
         Location::None => registers::empty_word(),
@@ -43,7 +43,7 @@ pub fn read(words: &[u64], location: Location) -> U256
 }
 
 pub fn source_of(answer: OperandsAnswer) -> Location
-    ensures { λ r. ⌜ r ≡ sourceOf answer ⌝ }
+    ensures { λ r. ⌜ r ≡ sourceTold answer ⌝ }
 {
     match answer {
         OperandsAnswer::Refused(_) => Location::None,
