@@ -1,6 +1,8 @@
-//! The plain Rust held to the answers of the reference's own cycle: those lines of `crates/replay` that have this program's
+//! Both Rust programs held to the answers of the reference's own cycle: those lines of `crates/replay` that have this program's
 //! settings. `compare/README.md` has the format.
-use crate::plain::*;
+use crate::machine::*;
+use crate::plain::Plain;
+use crate::tuned::Tuned;
 use crate::work::{decoded, RECORD};
 
 /// Depth limit, multiplier and time step of the lines that are taken.
@@ -78,6 +80,7 @@ fn row(f: &CallStackEntry) -> Vec<u64> {
 }
 
 /// Gives the words of a case, and notes what is asked: the code read, the source and the write, as a result has them.
+#[derive(Default)]
 struct Noted {
     code: U256,
     source: PrimitiveValue,
@@ -111,77 +114,74 @@ impl Memory for Noted {
     }
 }
 
-/// The machine after the settings of a case.
-fn machine<'a>(case: &mut Numbers, registers: &'a mut [PrimitiveValue; 17], frames: &'a mut Vec<CallStackEntry>) -> VmState<'a> {
-    for register in &mut registers[1..16] {
-        *register = case.value();
-    }
-    let flags = case.list(3);
-    let flags = Flags::new(flags[0] == 1, flags[1] == 1, flags[2] == 1);
+/// The state of a case, which stands after the registers, and its frames: the current one, and the saved ones with free places.
+fn state_and_frames(case: &mut Numbers) -> (State, CallStackEntry, Vec<CallStackEntry>) {
+    let flags = [0; 3].map(|_| case.take() == 1);
     let (timestamp, counter, pending) = (case.take(), case.take(), case.take());
     let previous_code_word = case.word();
     let (page, super_pc, reverts, depth) = (case.take(), case.take(), case.take(), case.take() as usize);
-    let current = frame(case.list(ROW));
-    frames.extend((0..depth).map(|_| frame(case.list(ROW))));
-    frames.push(current);
-    frames.resize(SETTINGS[0] as usize + 1, CallStackEntry::default());
-    VmState {
+    let state = State {
         previous_code_word,
         previous_code_memory_page: page as u32,
         previous_super_pc: super_pc as u16,
-        registers,
         flags,
         timestamp: timestamp as u32,
         monotonic_cycle_counter: counter as u32,
         pending_exception: pending == 1,
-        callstack: Callstack {
-            frames,
-            depth,
-            max_depth: SETTINGS[0] as usize,
-        },
         pubdata_revert_counter: reverts as u32 as i32,
-    }
+        depth,
+        max_depth: SETTINGS[0] as usize,
+    };
+    let current = frame(case.list(ROW));
+    let mut frames: Vec<_> = (0..depth).map(|_| frame(case.list(ROW))).collect();
+    frames.resize(state.max_depth + 1, CallStackEntry::default());
+    (state, current, frames)
 }
 
-/// The machine's numbers in a result.
-fn numbers(vm: &VmState) -> Vec<u64> {
+/// The numbers of a machine in a result, but for its saved frames.
+fn numbers<P: Program>(vm: &mut P::Machine<'_>) -> Vec<u64> {
     let mut list = Vec::new();
-    for register in &vm.registers[1..16] {
+    for number in REGISTERS {
+        let register = P::register_mut(vm, number);
         list.extend(register.value.0);
         list.push(register.is_pointer as u64);
     }
-    list.extend([0, 1, 2].map(|bit| (vm.flags.bits() >> bit & 1) as u64));
-    list.extend([vm.timestamp, vm.monotonic_cycle_counter, vm.pending_exception as u32].map(u64::from));
-    list.extend(vm.previous_code_word.0);
-    list.extend([vm.previous_code_memory_page as u64, vm.previous_super_pc as u64]);
-    list.extend([vm.pubdata_revert_counter as u32 as u64, vm.callstack.depth as u64]);
-    list.extend(row(vm.callstack.get_current_stack()));
-    for saved in &vm.callstack.frames[..vm.callstack.depth] {
-        list.extend(row(saved));
-    }
+    let state = P::state(vm);
+    list.extend(state.flags.map(u64::from));
+    list.extend([state.timestamp, state.monotonic_cycle_counter, state.pending_exception as u32].map(u64::from));
+    list.extend(state.previous_code_word.0);
+    list.extend([state.previous_code_memory_page as u64, state.previous_super_pc as u64]);
+    list.extend([state.pubdata_revert_counter as u32 as u64, state.depth as u64]);
+    list.extend(row(P::current(vm)));
     list
 }
 
-/// What this program's cycle gives of a result: the machine, code read, charge, source and write.
-fn cycled<const BY_VALUE: bool>(case: &[u64]) -> Vec<u64> {
+/// What a program's cycle gives of a result: the machine, code read, charge, source and write.
+fn cycled<P: Program, const BY_VALUE: bool>(case: &[u64]) -> Vec<u64> {
     let mut case = Numbers(&case[3..]);
-    let (mut registers, mut frames) = ([PrimitiveValue::empty(); 17], Vec::new());
-    let mut vm = machine(&mut case, &mut registers, &mut frames);
+    let registers = REGISTERS.map(|_| case.value());
+    let (state, current, mut frames) = state_and_frames(&mut case);
+    let mut apart = P::Apart::default();
+    let mut vm = P::new(state, current, &mut apart, &mut frames);
+    for (number, value) in REGISTERS.into_iter().zip(registers) {
+        *P::register_mut(&mut vm, number) = value;
+    }
     let [plain, panic, nop] = [0; 3].map(|_| decoded(case.list(RECORD)));
     let mut memory = Noted {
         code: case.word(),
         source: case.value(),
-        code_read: [0; 3],
-        source_read: [0; 3],
-        written: [0; 10],
+        ..Noted::default()
     };
     let records = Masked {
         plain: &plain,
         panic: &panic,
         nop: &nop,
     };
-    let charge = vm.cycle::<_, BY_VALUE>(&mut memory, records);
-    let mut list = numbers(&vm);
+    let charge = P::cycle::<_, BY_VALUE>(&mut vm, &mut memory, records);
+    let depth = P::state(&vm).depth;
+    let mut list = numbers::<P>(&mut vm);
+    drop(vm);
+    list.extend(frames[..depth].iter().flat_map(row));
     list.extend(memory.code_read);
     list.push(charge as u64);
     list.extend(memory.source_read);
@@ -206,8 +206,8 @@ fn parsed(line: &str) -> Option<Vec<u64>> {
     line.split(' ').map(|n| n.parse().ok()).collect()
 }
 
-#[test]
-fn answers_are_the_references() {
+/// Holds a program to the lines that can be stated; their number.
+fn hold<P: Program, const BY_VALUE: bool>() -> usize {
     let folder = concat!(env!("CARGO_MANIFEST_DIR"), "/../crates/replay/");
     let [cases, results] = ["stdin", "stdout"].map(|name| std::fs::read_to_string(format!("{folder}{name}")).unwrap());
     let mut taken = 0;
@@ -216,10 +216,59 @@ fn answers_are_the_references() {
             continue;
         };
         if case[..3] == SETTINGS && is_stated(&case) {
-            assert_eq!(cycled::<false>(&case), answered(&result), "{case:?}");
-            assert_eq!(cycled::<true>(&case), answered(&result), "{case:?}");
+            assert_eq!(cycled::<P, BY_VALUE>(&case), answered(&result), "{case:?}");
             taken += 1;
         }
     }
-    assert!(taken >= 300, "{taken} cases");
+    taken
+}
+
+#[test]
+fn plain_answers_as_the_reference() {
+    assert!(hold::<Plain, false>() >= 300);
+    assert!(hold::<Plain, true>() >= 300);
+}
+
+#[test]
+fn tuned_answers_as_the_reference() {
+    assert!(hold::<Tuned, false>() >= 300);
+    assert!(hold::<Tuned, true>() >= 300);
+}
+
+/// What an add of register 1, a pointer, and register 0 gives outside kernel mode: no line of the answers has that.
+fn sum_of_pointer<P: Program>() -> U256 {
+    let state = State {
+        depth: 1,
+        max_depth: 4,
+        ..State::default()
+    };
+    let current = CallStackEntry {
+        this_address: [1; 20],
+        ..CallStackEntry::default()
+    };
+    let (mut apart, mut frames) = (P::Apart::default(), [CallStackEntry::default(); 5]);
+    let mut vm = P::new(state, current, &mut apart, &mut frames);
+    *P::register_mut(&mut vm, 1) = PrimitiveValue {
+        value: U256([1, 2, 3, 4]),
+        is_pointer: true,
+    };
+    let add = DecodedOpcode {
+        opcode: Opcode::Add,
+        src0_reg_idx: 1,
+        dst0_reg_idx: 2,
+        ..DecodedOpcode::NOP
+    };
+    let records = Masked {
+        plain: &add,
+        panic: &DecodedOpcode::PANIC,
+        nop: &DecodedOpcode::NOP,
+    };
+    P::cycle::<_, false>(&mut vm, &mut Noted::default(), records);
+    P::register_mut(&mut vm, 2).value
+}
+
+#[test]
+fn metadata_of_pointers_is_erased() {
+    assert_eq!(sum_of_pointer::<Plain>(), U256([0, 0, 3, 4]));
+    assert_eq!(sum_of_pointer::<Tuned>(), U256([0, 0, 3, 4]));
 }

@@ -1,4 +1,4 @@
-//! Both sides must end alike after every count of cycles that is tried.
+//! All variants must end alike after every count of cycles that is tried.
 use crate::forms::{End, Run};
 use crate::sides::{self, Form, Stores, Variant, FORMS, VARIANTS};
 use crate::work::{Work, ERGS, LIMIT};

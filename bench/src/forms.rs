@@ -1,5 +1,5 @@
-//! The three forms of a run on the Rust side: cycles over lines in turn, from a listing's start.
-use crate::plain::*;
+//! The three forms of a run on the Rust side, for both programs: cycles over lines in turn, from a listing's start.
+use crate::machine::*;
 use std::hint::black_box;
 
 /// What both sides fill in: refusal, cycles completed, ergs, depth, pc, flags, timestamp, sum of charges.
@@ -87,104 +87,119 @@ fn record_of(op: u32, price: u32) -> DecodedOpcode {
     }
 }
 
+/// Where a listing starts: depth 1, in a far frame that holds the ergs; all else is 0.
 #[inline(always)]
-fn end_of(vm: &VmState, cycles: u64, charged: u64) -> End {
-    let frame = vm.callstack.get_current_stack();
+fn start<'a, P: Program>(run: Run, apart: &'a mut P::Apart, frames: &'a mut [CallStackEntry]) -> P::Machine<'a> {
+    let state = State {
+        depth: 1,
+        max_depth: run.limit as usize,
+        ..State::default()
+    };
+    let current = CallStackEntry {
+        ergs_remaining: run.ergs,
+        ..CallStackEntry::default()
+    };
+    frames[0] = CallStackEntry::default();
+    P::new(state, current, apart, frames)
+}
+
+/// The end. If `WHOLE`, what it does not show is handed out, too: the compiler then has to keep it.
+#[inline(always)]
+fn end_of<P: Program, const WHOLE: bool>(vm: &mut P::Machine<'_>, cycles: u64, charged: u64) -> End {
+    let state = P::state(vm);
+    if WHOLE {
+        black_box(state);
+        black_box(REGISTERS.map(|number| *P::register_mut(vm, number)));
+    }
+    let frame = P::current(vm);
+    let [lt, eq, gt] = state.flags.map(u64::from);
     [
         0,
         cycles,
         frame.ergs_remaining as u64,
-        vm.callstack.depth as u64,
+        state.depth as u64,
         frame.pc as u64,
-        vm.flags.bits() as u64,
-        vm.timestamp as u64,
+        lt | eq << 1 | gt << 2,
+        state.timestamp as u64,
         charged,
     ]
 }
 
-/// Hands out what the end does not show, if `WHOLE`: the compiler then has to keep it.
-#[inline(always)]
-fn hand_out<const WHOLE: bool>(vm: &VmState) {
-    if WHOLE {
-        black_box(vm.previous_code_word);
-        black_box((vm.previous_code_memory_page, vm.previous_super_pc, vm.pending_exception));
-        black_box((vm.monotonic_cycle_counter, vm.pubdata_revert_counter));
-        black_box(*vm.registers);
-    }
-}
-
 /// Three words a line: op, price, want. Code and source words are 0.
 #[inline(never)]
-pub fn listing<const BY_VALUE: bool, const WHOLE: bool>(lines: &[u32], run: Run, frames: &mut [CallStackEntry]) -> End {
+pub fn listing<P: Program, const BY_VALUE: bool, const WHOLE: bool>(lines: &[u32], run: Run, frames: &mut [CallStackEntry]) -> End {
     let zero = U256::zero();
     let mut memory = Given {
         code: &zero,
         source: &zero,
     };
-    let mut registers = [PrimitiveValue::empty(); 17];
-    let mut vm = VmState::start(&mut registers, frames, run.limit, run.ergs);
+    let mut apart = P::Apart::default();
+    let mut vm = start::<P>(run, &mut apart, frames);
     let mut charged = 0u64;
     let mut left = run.cycles;
     while left > 0 {
         let count = left.min(lines.len() as u64 / 3);
         for line in lines[..3 * count as usize].chunks_exact(3) {
-            vm.registers[1].value = U256::from_u64(line[2] as u64);
+            P::register_mut(&mut vm, 1).value = U256::from_u64(line[2] as u64);
             let records = Masked {
                 plain: &record_of(line[0], line[1]),
                 panic: &DecodedOpcode::PANIC,
                 nop: &DecodedOpcode::NOP,
             };
-            charged = charged.wrapping_add(vm.cycle::<_, BY_VALUE>(&mut memory, records) as u64);
+            charged = charged.wrapping_add(P::cycle::<_, BY_VALUE>(&mut vm, &mut memory, records) as u64);
         }
         left -= count;
     }
-    hand_out::<WHOLE>(&vm);
-    end_of(&vm, run.cycles, charged)
+    end_of::<P, WHOLE>(&mut vm, run.cycles, charged)
 }
 
 #[inline(always)]
-fn over_lines<M: Memory, const BY_VALUE: bool, const WHOLE: bool>(
+fn over_lines<P: Program, M: Memory, const BY_VALUE: bool, const WHOLE: bool>(
     lines: &[Line],
     mut memory: M,
     run: Run,
     frames: &mut [CallStackEntry],
 ) -> End {
-    let mut registers = [PrimitiveValue::empty(); 17];
-    let mut vm = VmState::start(&mut registers, frames, run.limit, run.ergs);
+    let mut apart = P::Apart::default();
+    let mut vm = start::<P>(run, &mut apart, frames);
     let mut charged = 0u64;
     let mut left = run.cycles;
     while left > 0 {
         let count = left.min(lines.len() as u64);
         for line in &lines[..count as usize] {
-            vm.registers[1].value = U256::from_u64(line.want);
+            P::register_mut(&mut vm, 1).value = U256::from_u64(line.want);
             let records = Masked {
                 plain: &line.plain,
                 panic: &line.panic,
                 nop: &line.nop,
             };
-            charged = charged.wrapping_add(vm.cycle::<_, BY_VALUE>(&mut memory, records) as u64);
+            charged = charged.wrapping_add(P::cycle::<_, BY_VALUE>(&mut vm, &mut memory, records) as u64);
         }
         left -= count;
     }
-    hand_out::<WHOLE>(&vm);
-    end_of(&vm, run.cycles, charged)
+    end_of::<P, WHOLE>(&mut vm, run.cycles, charged)
 }
 
 /// The code word and the source word are the same at every cycle.
 #[inline(never)]
-pub fn opaque<const BY_VALUE: bool, const WHOLE: bool>(
+pub fn opaque<P: Program, const BY_VALUE: bool, const WHOLE: bool>(
     lines: &[Line],
     code: &U256,
     source: &U256,
     run: Run,
     frames: &mut [CallStackEntry],
 ) -> End {
-    over_lines::<_, BY_VALUE, WHOLE>(lines, Given { code, source }, run, frames)
+    over_lines::<P, _, BY_VALUE, WHOLE>(lines, Given { code, source }, run, frames)
 }
 
 /// Code and source words are read from a memory.
 #[inline(never)]
-pub fn staged<const BY_VALUE: bool, const WHOLE: bool>(lines: &[Line], words: &[U256], run: Run, frames: &mut [CallStackEntry]) -> End {
+pub fn staged<P: Program, const BY_VALUE: bool, const WHOLE: bool>(
+    lines: &[Line],
+    words: &[U256],
+    run: Run,
+    frames: &mut [CallStackEntry],
+) -> End {
     assert!(!words.is_empty());
-    over_lines::<_, BY_VALUE, WHOLE>(lines, Indexed(words), run, frames)
+    over_lines::<P, _, BY_VALUE, WHOLE>(lines, Indexed(words), run, frames)
 }

@@ -1,12 +1,14 @@
-//! Runs the same cycles in Rattle, through its static libraries, and in plain Rust: compares how they end, then times both.
+//! Runs the same cycles in Rattle, through its static libraries, and in two Rust programs: compares how they end, then times all.
 #[cfg(test)]
 mod answers;
 mod check;
 mod forms;
+mod machine;
 mod plain;
 mod rattle;
 mod sides;
 mod table;
+mod tuned;
 mod work;
 
 use forms::Run;

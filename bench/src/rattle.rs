@@ -1,6 +1,6 @@
 //! The Rattle side: three functions of the static libraries. A slice crosses as its pointer and its length.
 use crate::forms::{End, Run};
-use crate::plain::U256;
+use crate::machine::U256;
 
 extern "C" {
     fn bench_listing(

@@ -1,7 +1,9 @@
 //! The forms and the variants, by name, and one run of each.
 use crate::forms::{self, End, Run};
-use crate::plain::CallStackEntry;
+use crate::machine::{CallStackEntry, Program};
+use crate::plain::Plain;
 use crate::rattle;
+use crate::tuned::Tuned;
 use crate::work::{Work, LIMIT};
 use std::hint::black_box;
 
@@ -17,24 +19,28 @@ pub enum Form {
     Staged,
 }
 
-/// The Rattle library, or plain Rust: the record that is carried out lies behind a reference or is copied; only the end is
-/// handed out, or the whole machine.
+/// The Rattle library or one of the two Rust programs. There the record that is carried out lies behind a reference or is copied;
+/// only the end is handed out, or the whole machine.
 #[derive(Clone, Copy, PartialEq, Eq, Debug)]
 pub enum Variant {
     Rattle,
-    Reference,
-    Value,
-    ReferenceWhole,
-    ValueWhole,
+    PlainReference,
+    PlainValue,
+    TunedReference,
+    TunedValue,
+    TunedReferenceWhole,
+    TunedValueWhole,
 }
 
 pub const FORMS: [Form; 3] = [Form::Listing, Form::Opaque, Form::Staged];
-pub const VARIANTS: [Variant; 5] = [
+pub const VARIANTS: [Variant; 7] = [
     Variant::Rattle,
-    Variant::Reference,
-    Variant::Value,
-    Variant::ReferenceWhole,
-    Variant::ValueWhole,
+    Variant::PlainReference,
+    Variant::PlainValue,
+    Variant::TunedReference,
+    Variant::TunedValue,
+    Variant::TunedReferenceWhole,
+    Variant::TunedValueWhole,
 ];
 
 impl Form {
@@ -51,15 +57,17 @@ impl Variant {
     pub fn name(self) -> &'static str {
         match self {
             Variant::Rattle => "rattle",
-            Variant::Reference => "rust-reference",
-            Variant::Value => "rust-value",
-            Variant::ReferenceWhole => "rust-reference-whole",
-            Variant::ValueWhole => "rust-value-whole",
+            Variant::PlainReference => "plain-reference",
+            Variant::PlainValue => "plain-value",
+            Variant::TunedReference => "tuned-reference",
+            Variant::TunedValue => "tuned-value",
+            Variant::TunedReferenceWhole => "tuned-reference-whole",
+            Variant::TunedValueWhole => "tuned-value-whole",
         }
     }
 }
 
-/// Where frames are saved: rows of words for Rattle, structs for Rust, which has the current frame among them.
+/// Where frames are saved: rows of words for Rattle, structs for Rust. `tuned` has the current frame among them.
 #[derive(Debug)]
 pub struct Stores {
     rows: Vec<u32>,
@@ -98,11 +106,11 @@ fn run_rattle(form: Form, work: &Work, run: Run, store: &mut [u32]) -> End {
     }
 }
 
-fn run_rust<const BY_VALUE: bool, const WHOLE: bool>(form: Form, work: &Work, run: Run, frames: &mut [CallStackEntry]) -> End {
+fn run_rust<P: Program, const BY_VALUE: bool, const WHOLE: bool>(form: Form, work: &Work, run: Run, frames: &mut [CallStackEntry]) -> End {
     match form {
-        Form::Listing => forms::listing::<BY_VALUE, WHOLE>(&work.listing, run, frames),
-        Form::Opaque => forms::opaque::<BY_VALUE, WHOLE>(&work.opaque.held, &work.code, &work.source, run, frames),
-        Form::Staged => forms::staged::<BY_VALUE, WHOLE>(&work.staged.held, &work.memory, run, frames),
+        Form::Listing => forms::listing::<P, BY_VALUE, WHOLE>(&work.listing, run, frames),
+        Form::Opaque => forms::opaque::<P, BY_VALUE, WHOLE>(&work.opaque.held, &work.code, &work.source, run, frames),
+        Form::Staged => forms::staged::<P, BY_VALUE, WHOLE>(&work.staged.held, &work.memory, run, frames),
     }
 }
 
@@ -111,9 +119,11 @@ pub fn run(form: Form, variant: Variant, work: &Work, run: Run, stores: &mut Sto
     let (work, run, stores) = (black_box(work), black_box(run), black_box(stores));
     match variant {
         Variant::Rattle => run_rattle(form, work, run, &mut stores.rows),
-        Variant::Reference => run_rust::<false, false>(form, work, run, &mut stores.frames),
-        Variant::Value => run_rust::<true, false>(form, work, run, &mut stores.frames),
-        Variant::ReferenceWhole => run_rust::<false, true>(form, work, run, &mut stores.frames),
-        Variant::ValueWhole => run_rust::<true, true>(form, work, run, &mut stores.frames),
+        Variant::PlainReference => run_rust::<Plain, false, false>(form, work, run, &mut stores.frames),
+        Variant::PlainValue => run_rust::<Plain, true, false>(form, work, run, &mut stores.frames),
+        Variant::TunedReference => run_rust::<Tuned, false, false>(form, work, run, &mut stores.frames),
+        Variant::TunedValue => run_rust::<Tuned, true, false>(form, work, run, &mut stores.frames),
+        Variant::TunedReferenceWhole => run_rust::<Tuned, false, true>(form, work, run, &mut stores.frames),
+        Variant::TunedValueWhole => run_rust::<Tuned, true, true>(form, work, run, &mut stores.frames),
     }
 }

@@ -6,6 +6,9 @@ use std::collections::HashMap;
 use std::time::Instant;
 
 const CYCLES: u64 = 1_000_000;
+/// The variants that the last lines hold Rattle to.
+const PLAIN: [Variant; 2] = [Variant::PlainReference, Variant::PlainValue];
+const TUNED: [Variant; 2] = [Variant::TunedReference, Variant::TunedValue];
 
 /// Instructions per cycle by form and variant, as text: lines of `FORM VARIANT COUNT`.
 pub struct Counts(HashMap<(String, String), String>);
@@ -44,9 +47,13 @@ fn minima(form: Form, rounds: usize, work: &Work, stores: &mut Stores) -> [f64; 
     least
 }
 
-/// Prints the rows of a form; Rattle's time by that of the fastest Rust.
-fn print_form(form: Form, least: &[f64; VARIANTS.len()], counts: &Counts) -> f64 {
-    let rust = least[1..].iter().copied().fold(f64::INFINITY, f64::min);
+/// Rattle's time by that of the fastest of these.
+fn ratio(least: &[f64; VARIANTS.len()], variants: &[Variant]) -> f64 {
+    let times = VARIANTS.iter().zip(least).filter(|(variant, _)| variants.contains(variant));
+    least[0] / times.map(|(_, time)| *time).fold(f64::INFINITY, f64::min)
+}
+
+fn print_form(form: Form, least: &[f64; VARIANTS.len()], counts: &Counts) {
     for (time, variant) in least.iter().zip(VARIANTS) {
         println!(
             "{:8} {:21} {:6.2} {:>13} {:6.2}",
@@ -54,22 +61,25 @@ fn print_form(form: Form, least: &[f64; VARIANTS.len()], counts: &Counts) -> f64
             variant.name(),
             time,
             counts.of(form, variant),
-            time / rust
+            ratio(least, &[variant])
         );
     }
-    least[0] / rust
 }
 
-/// Prints the table, then a line with the ratio of each form, the listing's last.
+/// Prints the table, then Rattle's ratios: to the tuned variants that hand out the end alone, then to the plain ones, the listing last.
 pub fn print(rounds: usize, counts: &Counts, work: &Work, stores: &mut Stores) {
-    println!("{CYCLES} cycles a round, least of {rounds} rounds; ratio to the fastest Rust of the form");
+    println!("{CYCLES} cycles a round, least of {rounds} rounds; ratio: Rattle's time by the variant's");
     println!("{:8} {:21} {:>6} {:>13} {:>6}", "form", "variant", "ns", "instructions", "ratio");
-    let ratios = FORMS.map(|form| {
+    let times = FORMS.map(|form| {
         let least = minima(form, rounds, work, stores);
-        print_form(form, &least, counts)
+        print_form(form, &least, counts);
+        least
     });
-    for (form, ratio) in FORMS.iter().zip(ratios).skip(1) {
-        println!("ratio {} {ratio:.2}", form.name());
+    for (form, least) in FORMS.iter().zip(&times) {
+        println!("ratio tuned {} {:.2}", form.name(), ratio(least, &TUNED));
     }
-    println!("ratio {:.2}", ratios[0]);
+    for (form, least) in FORMS.iter().zip(&times).skip(1) {
+        println!("ratio {} {:.2}", form.name(), ratio(least, &PLAIN));
+    }
+    println!("ratio {:.2}", ratio(&times[0], &PLAIN));
 }

@@ -1,6 +1,6 @@
 //! The work: call, add and return in turn, thirty lines; of ten returns eight are ok, one is a revert and one a panic.
 use crate::forms::Line;
-use crate::plain::*;
+use crate::machine::*;
 
 pub const LIMIT: u32 = 16;
 pub const ERGS: u32 = 4_000_000_000;

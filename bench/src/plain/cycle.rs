@@ -1,144 +1,214 @@
-//! After `cycle.rs`.
-use super::helpers::*;
-use super::*;
-use std::hint::cold_path;
+//! After `vm_state/cycle.rs`.
+use super::helpers::ErrorFlags;
+use super::mem_ops::MemOpsProcessor;
+use super::parsing::Decoded;
+use super::vm_state::DelayedLocalStateChanges;
+use super::{Flags, VmLocalState};
+use crate::machine::*;
 
-/// For each condition the flags that meet it: bit `f` is for the flags whose bits are `f`.
-const MET: [u8; 8] = {
-    let (lt, eq, gt) = (0b1010_1010, 0b1100_1100, 0b1111_0000);
-    [0xff, gt, lt, eq, gt | eq, lt | eq, !eq, gt | lt]
-};
+pub struct PreState {
+    pub src0: PrimitiveValue,
+    pub src1: PrimitiveValue,
+    pub dst0_mem_location: Option<MemoryLocation>,
+    pub new_pc: u16,
+}
 
-impl Flags {
-    /// Whether an instruction with this condition is carried out.
-    #[inline(always)]
-    fn meet(self, condition: Condition) -> bool {
-        condition == Condition::Always || MET[condition as usize] >> (self.bits() & 7) & 1 != 0
+const OPCODES_PER_WORD_LOG_2: usize = 2;
+const OPCODES_PER_WORD: usize = 1 << OPCODES_PER_WORD_LOG_2;
+
+#[inline]
+fn super_and_sub_pc_from_pc(pc: u16) -> (u16, u8) {
+    (pc >> OPCODES_PER_WORD_LOG_2, (pc & (OPCODES_PER_WORD as u16 - 1)) as u8)
+}
+
+#[inline]
+fn read_and_cache_opcode<M: Memory>(
+    local_state: &VmLocalState,
+    memory: &mut M,
+    super_pc: u16,
+    delayed_changes: &mut DelayedLocalStateChanges,
+) -> U256 {
+    let location = MemoryLocation {
+        memory_type: MemoryType::Code,
+        page: local_state.callstack.get_current_stack().code_page,
+        index: super_pc as u32,
+    };
+    let u256_word = memory.read_code(local_state.timestamp_for_code_or_src_read(), location);
+    delayed_changes.new_previous_code_word = Some(u256_word);
+    delayed_changes.new_previous_super_pc = Some(super_pc);
+    u256_word
+}
+
+/// The first part of `read_and_decode`: the bits of the instruction, which the caller has parsed; none where the reference puts a
+/// panic or a nop.
+#[inline(always)]
+fn read_opcode<M: Memory>(local_state: &VmLocalState, memory: &mut M, delayed_changes: &mut DelayedLocalStateChanges) -> Option<u64> {
+    let execution_has_ended = local_state.execution_has_ended();
+    let pending_exception = local_state.pending_exception;
+    let current_stack = local_state.callstack.get_current_stack();
+    delayed_changes.new_previous_code_memory_page = Some(current_stack.code_page);
+    let code_pages_are_different = current_stack.code_page != local_state.previous_code_memory_page;
+    let (super_pc, sub_pc) = super_and_sub_pc_from_pc(current_stack.pc);
+    let refresh_opcode_cache = code_pages_are_different || local_state.previous_super_pc != super_pc;
+
+    if !execution_has_ended && !pending_exception {
+        let u256_word = if refresh_opcode_cache {
+            read_and_cache_opcode(local_state, memory, super_pc, delayed_changes)
+        } else {
+            local_state.previous_code_word
+        };
+        // The first instruction of a word is its highest part.
+        Some(u256_word.0[OPCODES_PER_WORD - 1 - sub_pc as usize])
+    } else if pending_exception {
+        assert!(!execution_has_ended);
+        if refresh_opcode_cache {
+            read_and_cache_opcode(local_state, memory, super_pc, delayed_changes);
+        }
+        delayed_changes.new_pending_exception = Some(false);
+        None
+    } else {
+        None
     }
 }
 
-impl VmState<'_> {
-    /// The code read of `read_and_decode`; the bits of the instruction, which the caller has parsed.
-    #[inline(always)]
-    fn fetch<M: Memory>(&mut self, memory: &mut M) -> u64 {
-        let frame = self.callstack.get_current_stack();
-        let (page, super_pc, sub_pc) = (frame.code_page, frame.pc >> 2, frame.pc & 3);
-        if page != self.previous_code_memory_page || super_pc != self.previous_super_pc {
-            let location = MemoryLocation {
-                memory_type: MemoryType::Code,
-                page,
-                index: super_pc as u32,
-            };
-            self.previous_code_word = memory.read_code(self.timestamp, location);
-            self.previous_super_pc = super_pc;
-            self.previous_code_memory_page = page;
-        }
-        self.pending_exception = false;
-        self.previous_code_word.0[3 - sub_pc as usize]
+/// The exceptions that are looked for before execution, but for the one about ergs.
+#[inline(always)]
+fn check_exceptions(local_state: &VmLocalState, opcode: &DecodedOpcode, error_flags: &mut ErrorFlags) {
+    let current_stack = local_state.callstack.get_current_stack();
+    if opcode.is_explicit_panic {
+        error_flags.insert(ErrorFlags::INVALID_OPCODE);
     }
-
-    /// The flags of `ErrorFlags` for a plain instruction, but for the one about ergs.
-    #[inline(always)]
-    fn error_flags(&self, plain: &DecodedOpcode) -> u64 {
-        let frame = self.callstack.get_current_stack();
-        let mut errors = 0;
-        if plain.is_explicit_panic {
-            errors |= INVALID_OPCODE;
-        }
-        if plain.requires_kernel_mode && !frame.is_kernel_mode() {
-            errors |= PRIVILAGED_ACCESS_NOT_FROM_KERNEL;
-        }
-        if !plain.can_be_used_in_static_context && frame.is_static {
-            errors |= WRITE_IN_STATIC_CONTEXT;
-        }
-        if self.callstack.is_full() {
-            errors |= CALLSTACK_IS_FULL;
-        }
-        errors
+    if opcode.requires_kernel_mode && !current_stack.is_kernel_mode() {
+        error_flags.insert(ErrorFlags::PRIVILAGED_ACCESS_NOT_FROM_KERNEL);
     }
+    if !opcode.can_be_used_in_static_context && current_stack.is_static {
+        error_flags.insert(ErrorFlags::WRITE_IN_STATIC_CONTEXT);
+    }
+    if local_state.callstack_is_full() {
+        error_flags.insert(ErrorFlags::CALLSTACK_IS_FULL);
+    }
+}
 
-    /// Charges, and chooses the instruction that is carried out.
+#[inline]
+fn resolve_condition(flags: Flags, condition: Condition) -> bool {
+    match condition {
+        Condition::Always => true,
+        Condition::Gt => flags.greater_than_flag,
+        Condition::Lt => flags.overflow_or_less_than_flag,
+        Condition::Eq => flags.equality_flag,
+        Condition::Ge => flags.greater_than_flag | flags.equality_flag,
+        Condition::Le => flags.overflow_or_less_than_flag | flags.equality_flag,
+        Condition::Ne => !flags.equality_flag,
+        Condition::GtOrLt => flags.greater_than_flag | flags.overflow_or_less_than_flag,
+    }
+}
+
+#[inline(always)]
+fn read_and_decode<'r, M: Memory, const BY_VALUE: bool>(
+    local_state: &VmLocalState,
+    memory: &mut M,
+    records: Masked<'r>,
+) -> (Decoded<'r, BY_VALUE>, DelayedLocalStateChanges, bool) {
+    let mut delayed_changes = DelayedLocalStateChanges::default();
+    read_opcode(local_state, memory, &mut delayed_changes);
+    let skip_cycle = local_state.execution_has_ended();
+
+    let mut error_flags = ErrorFlags::empty();
+    let mut partially_decoded = Decoded::new(records);
+    let ergs_cost = if skip_cycle { 0 } else { partially_decoded.ergs_cost };
+    let held = local_state.callstack.get_current_stack().ergs_remaining;
+    let (mut ergs_remaining, not_enough_power) = held.overflowing_sub(ergs_cost);
+    if not_enough_power {
+        ergs_remaining = 0;
+        error_flags.insert(ErrorFlags::NOT_ENOUGH_ERGS);
+    }
+    delayed_changes.new_ergs_remaining = Some(ergs_remaining);
+
+    check_exceptions(local_state, &partially_decoded, &mut error_flags);
+    let mask_into_panic_due_to_exception = !error_flags.is_empty();
+    if mask_into_panic_due_to_exception {
+        partially_decoded.mask_into_panic();
+    }
+    let resolved_condition = resolve_condition(local_state.flags, partially_decoded.condition);
+    if !resolved_condition && !mask_into_panic_due_to_exception {
+        partially_decoded.mask_into_nop();
+    }
+    (partially_decoded, delayed_changes, skip_cycle)
+}
+
+/// Erases the metadata of a pointer, its two low words, where the instruction may not have one.
+#[inline]
+fn erase_if_unwanted(value: &mut PrimitiveValue, can_be_pointer: bool, current_stack: &CallStackEntry) {
+    if !can_be_pointer && value.is_pointer && !current_stack.is_kernel_mode() {
+        value.value.0[0] = 0;
+        value.value.0[1] = 0;
+        value.is_pointer = false;
+    }
+}
+
+impl VmLocalState<'_> {
+    /// The middle part of `cycle`: the source's value, and the destination's location if in memory. A push or pop moves sp.
     #[inline(always)]
-    fn decode<'r, const ENDED: bool>(&mut self, records: Masked<'r>) -> (&'r DecodedOpcode, u32) {
-        let plain = records.plain;
-        let mut errors = self.error_flags(plain);
-        let cost = if ENDED { 0 } else { plain.ergs_cost };
-        let frame = self.callstack.get_current_stack_mut();
-        let held = frame.ergs_remaining;
-        let (mut left, not_enough) = held.overflowing_sub(cost);
-        if not_enough {
-            cold_path();
-            left = 0;
-            errors |= NOT_ENOUGH_ERGS;
-        }
-        frame.ergs_remaining = left;
-        let op = if errors != 0 {
-            records.panic
-        } else if self.flags.meet(plain.condition) {
-            plain
-        } else {
-            records.nop
+    fn select_src0_and_dst0<M: Memory>(&mut self, memory: &mut M, opcode: &DecodedOpcode) -> (PrimitiveValue, Option<MemoryLocation>) {
+        let mut mem_processor = MemOpsProcessor {
+            sp: self.callstack.get_current_stack().sp,
         };
-        (op, held - left)
+        let (src0_reg_value, mut src0_mem_location) =
+            mem_processor.compute_addresses_and_select_operands(self, opcode.src0_reg_idx, opcode.imm_0, opcode.src0_operand_type, false);
+        let (_, dst0_mem_location) =
+            mem_processor.compute_addresses_and_select_operands(self, opcode.dst0_reg_idx, opcode.imm_1, opcode.dst0_operand_type, true);
+        self.callstack.get_current_stack_mut().sp = mem_processor.sp;
+        if opcode.opcode == Opcode::Nop {
+            src0_mem_location = None;
+        }
+        let src0_mem_value = match src0_mem_location {
+            Some(location) => memory.read(self.timestamp_for_code_or_src_read(), location),
+            None => PrimitiveValue::empty(),
+        };
+        let src0 = match opcode.src0_operand_type {
+            Operand::UseRegOnly => src0_reg_value,
+            Operand::UseImm16Only => PrimitiveValue::from_value(U256::from_u64(opcode.imm_0 as u64)),
+            _ => src0_mem_value,
+        };
+        (src0, dst0_mem_location)
     }
 
-    /// A cycle, for one of the two cases of `skip_cycle`.
+    /// What the operation gets: operands after the swap, without unwanted pointers.
     #[inline(always)]
-    fn stages<M: Memory, const ENDED: bool, const BY_VALUE: bool>(&mut self, memory: &mut M, records: Masked) -> u32 {
-        if !ENDED {
-            self.fetch(memory);
+    fn prestate<M: Memory>(&mut self, memory: &mut M, opcode: &DecodedOpcode, skip_cycle: bool) -> PreState {
+        let (src0, dst0_mem_location) = self.select_src0_and_dst0(memory, opcode);
+        let src1 = self.select_register_value(opcode.src1_reg_idx);
+        let (mut src0, mut src1) = if opcode.swap_operands { (src1, src0) } else { (src0, src1) };
+        let mut new_pc = self.callstack.get_current_stack().pc;
+        if !skip_cycle {
+            new_pc = new_pc.wrapping_add(1);
         }
-        let (op, charge) = self.decode::<ENDED>(records);
-        let copy;
-        let op = if BY_VALUE {
-            copy = *op;
-            &copy
-        } else {
-            op
-        };
-        let mut first = (op.src0_reg_idx & 15) as usize;
-        let mut dst0 = None;
-        if op.src0_operand_type as u8 | op.dst0_operand_type as u8 != 0 {
-            (first, dst0) = self.operands(memory, op);
+        let current_stack = self.callstack.get_current_stack();
+        erase_if_unwanted(&mut src0, opcode.src0_can_be_pointer, current_stack);
+        erase_if_unwanted(&mut src1, opcode.src1_can_be_pointer, current_stack);
+        PreState {
+            src0,
+            src1,
+            dst0_mem_location,
+            new_pc,
         }
-        let frame = self.callstack.get_current_stack_mut();
-        let new_pc = if ENDED { frame.pc } else { frame.pc.wrapping_add(1) };
-        match op.opcode {
-            Opcode::Nop => frame.pc = new_pc,
-            Opcode::Add => {
-                frame.pc = new_pc;
-                self.add_opcode_apply(memory, op, first, dst0);
-            }
-            Opcode::Sub => {
-                frame.pc = new_pc;
-                self.sub_opcode_apply(memory, op, first, dst0);
-            }
-            Opcode::NearCall => self.near_call_opcode_apply(op, first, new_pc),
-            Opcode::Ret => self.ret_opcode_apply(op),
-        }
-        if !ENDED {
-            self.timestamp = self.timestamp.wrapping_add(TIME_DELTA_PER_CYCLE);
+    }
+
+    /// One cycle; the ergs that it charged.
+    #[inline(always)]
+    pub fn cycle<M: Memory, const BY_VALUE: bool>(&mut self, memory: &mut M, records: Masked) -> u32 {
+        let held = self.callstack.get_current_stack().ergs_remaining;
+        let (after_masking_decoded, delayed_changes, skip_cycle) = read_and_decode::<M, BY_VALUE>(self, memory, records);
+        delayed_changes.apply(self);
+        let charge = held - self.callstack.get_current_stack().ergs_remaining;
+
+        let prestate = self.prestate(memory, &after_masking_decoded, skip_cycle);
+        after_masking_decoded.apply(self, memory, prestate);
+
+        if !skip_cycle {
+            self.increment_timestamp_after_cycle();
         }
         self.monotonic_cycle_counter = self.monotonic_cycle_counter.wrapping_add(1);
         charge
-    }
-
-    /// The cycles after the end: they cost nothing and read no code.
-    #[inline(always)]
-    fn ended_cycle<M: Memory, const BY_VALUE: bool>(&mut self, memory: &mut M, records: Masked) -> u32 {
-        assert!(!self.pending_exception);
-        self.previous_code_memory_page = self.callstack.get_current_stack().code_page;
-        self.stages::<M, true, BY_VALUE>(memory, records)
-    }
-
-    /// One cycle; the ergs that it charged. `BY_VALUE`: the instruction that is carried out is copied. That is faster where the
-    /// compiler knows most of its fields, and slower where it lies in memory.
-    #[inline(always)]
-    pub fn cycle<M: Memory, const BY_VALUE: bool>(&mut self, memory: &mut M, records: Masked) -> u32 {
-        if self.callstack.is_empty() {
-            cold_path();
-            return self.ended_cycle::<M, BY_VALUE>(memory, records);
-        }
-        self.stages::<M, false, BY_VALUE>(memory, records)
     }
 }

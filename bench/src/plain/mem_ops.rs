@@ -1,37 +1,53 @@
-//! Addresses of operands, after `mem_ops.rs`.
-use super::execution_stack::stack_page_from_base;
-use super::{CallStackEntry, MemoryLocation, MemoryType, Operand};
+//! After `vm_state/mem_ops.rs`.
+use super::VmLocalState;
+use crate::machine::{stack_page_from_base, CallStackEntry, MemoryLocation, MemoryType, Operand, PrimitiveValue};
 
-#[inline(always)]
-fn on_stack(frame: &CallStackEntry, index: u16) -> Option<MemoryLocation> {
+pub struct MemOpsProcessor {
+    pub sp: u16,
+}
+
+#[inline]
+fn on_stack(current_context: &CallStackEntry, index: u16) -> Option<MemoryLocation> {
     Some(MemoryLocation {
         memory_type: MemoryType::Stack,
-        page: stack_page_from_base(frame.base_memory_page),
+        page: stack_page_from_base(current_context.base_memory_page),
         index: index as u32,
     })
 }
 
-/// Where an operand of that kind lies, if in memory; a push or pop moves sp. `low` is the low bits of its register.
-#[inline(always)]
-pub fn compute_address(frame: &CallStackEntry, sp: &mut u16, low: u16, imm: u16, kind: Operand, is_write: bool) -> Option<MemoryLocation> {
-    let vaddr = low.wrapping_add(imm);
-    match kind {
-        Operand::UseRegOnly | Operand::UseImm16Only => None,
-        Operand::UseStackWithPushPop => {
-            let old = *sp;
-            *sp = if is_write {
-                old.wrapping_add(vaddr)
-            } else {
-                old.wrapping_sub(vaddr)
-            };
-            on_stack(frame, if is_write { old } else { *sp })
-        }
-        Operand::UseStackWithOffset => on_stack(frame, sp.wrapping_sub(vaddr)),
-        Operand::UseCodePage => Some(MemoryLocation {
-            memory_type: MemoryType::Code,
-            page: frame.code_page,
-            index: vaddr as u32,
-        }),
-        Operand::UseAbsoluteOnStack => on_stack(frame, vaddr),
+impl MemOpsProcessor {
+    /// The register's value, and where the operand lies if in memory; a push or pop moves sp.
+    #[inline(always)]
+    pub fn compute_addresses_and_select_operands(
+        &mut self,
+        vm_state: &VmLocalState,
+        register_index_encoding: u8,
+        imm: u16,
+        mem_imm: Operand,
+        is_write: bool,
+    ) -> (PrimitiveValue, Option<MemoryLocation>) {
+        let primitive_value = vm_state.select_register_value(register_index_encoding);
+        let vaddr = primitive_value.value.low_u16().wrapping_add(imm);
+        let current_context = vm_state.callstack.get_current_stack();
+        let memory_location = match mem_imm {
+            Operand::UseRegOnly | Operand::UseImm16Only => None,
+            Operand::UseStackWithPushPop if is_write => {
+                let old_sp = self.sp;
+                self.sp = old_sp.wrapping_add(vaddr);
+                on_stack(current_context, old_sp)
+            }
+            Operand::UseStackWithPushPop => {
+                self.sp = self.sp.wrapping_sub(vaddr);
+                on_stack(current_context, self.sp)
+            }
+            Operand::UseStackWithOffset => on_stack(current_context, self.sp.wrapping_sub(vaddr)),
+            Operand::UseCodePage => Some(MemoryLocation {
+                memory_type: MemoryType::Code,
+                page: current_context.code_page,
+                index: vaddr as u32,
+            }),
+            Operand::UseAbsoluteOnStack => on_stack(current_context, vaddr),
+        };
+        (primitive_value, memory_location)
     }
 }

@@ -1,32 +1,36 @@
-//! After `near_call.rs`.
-use super::{DecodedOpcode, Flags, VmState, ERGS_CONVERSION};
+//! After `opcodes/execution/near_call.rs`.
+use super::cycle::PreState;
+use super::VmLocalState;
+use crate::machine::{DecodedOpcode, ERGS_CONVERSION};
 
-/// What the opened frame gets of what is held, and what its caller keeps.
-#[inline(always)]
-fn divide_ergs(held: u32, want: u32) -> (u32, u32) {
-    let want = want.saturating_mul(ERGS_CONVERSION);
-    if want == 0 || want > held {
-        (held, 0)
-    } else {
-        (want, held - want)
-    }
-}
-
-impl VmState<'_> {
+impl DecodedOpcode {
     #[inline(always)]
-    pub(super) fn near_call_opcode_apply(&mut self, op: &DecodedOpcode, first: usize, new_pc: u16) {
-        self.flags = Flags::default();
-        let (src0, _) = self.sources(op, first);
-        let want = self.erased(src0, op.src0_can_be_pointer).low_u32();
-        let caller = self.callstack.get_current_stack_mut();
-        let (passed, kept) = divide_ergs(caller.ergs_remaining, want);
-        caller.ergs_remaining = kept;
-        caller.pc = new_pc;
-        let opened = self.callstack.push_copy();
-        opened.pc = op.imm_0;
-        opened.exception_handler_location = op.imm_1;
-        opened.ergs_remaining = passed;
-        opened.is_local_frame = true;
-        opened.total_pubdata_spent = 0;
+    pub fn near_call_opcode_apply(&self, vm_state: &mut VmLocalState, prestate: PreState) {
+        let PreState { src0, new_pc, .. } = prestate;
+        vm_state.flags.reset();
+
+        let ergs_passed = src0.value.low_u32().saturating_mul(ERGS_CONVERSION);
+        let pass_all_ergs = ergs_passed == 0;
+        let remaining_ergs = vm_state.callstack.get_current_stack().ergs_remaining;
+        let (passed_ergs, remaining_ergs_for_this_context) = if pass_all_ergs {
+            (remaining_ergs, 0)
+        } else {
+            match remaining_ergs.checked_sub(ergs_passed) {
+                Some(remaining_for_this_context) => (ergs_passed, remaining_for_this_context),
+                None => (remaining_ergs, 0),
+            }
+        };
+
+        let current_stack = vm_state.callstack.get_current_stack_mut();
+        current_stack.ergs_remaining = remaining_ergs_for_this_context;
+        current_stack.pc = new_pc;
+
+        let mut new_stack = *current_stack;
+        new_stack.pc = self.imm_0;
+        new_stack.exception_handler_location = self.imm_1;
+        new_stack.ergs_remaining = passed_ergs;
+        new_stack.is_local_frame = true;
+        new_stack.total_pubdata_spent = 0;
+        vm_state.start_frame(new_stack);
     }
 }

@@ -1,5 +1,6 @@
 //! After `add.rs`, `sub.rs` and `perform_dst0_update` of `helpers.rs`.
-use super::{DecodedOpcode, Flags, Memory, MemoryLocation, PrimitiveValue, VmState, U256};
+use super::{Flags, VmState};
+use crate::machine::{DecodedOpcode, Memory, MemoryLocation, PrimitiveValue, U256};
 
 impl VmState<'_> {
     #[inline(always)]
