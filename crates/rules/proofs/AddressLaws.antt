@@ -1,10 +1,11 @@
 -- Operand addresses: the four kinds of a source, the three of a destination, and those without a location. Assumes nothing.
-use Prim.Native.Nat.{ℕ}
-use mathlib.Core.Bool.{Bool, true, false, _||_}
+use Prim.Native.Nat.{ℕ, _≤_}
+use mathlib.Core.Bool.{Bool, true, false, cond, _||_}
 use mathlib.Core.Path.{_≡_, refl, ap, subst}
 use mathlib.Core.List.{List}
-use lib.Dec.{T, eqb}
-use borrow.Author.Tests.{ne-eqb}
+use native.Mathlib.Omega.{arith}
+use lib.Dec.{T, eqb, leb}
+use borrow.Author.Tests.{ne-eqb, leb-true}
 use Rattle.u256.specs.Word.{wrappingSum, wrappingDifference}
 use Rattle.u256.specs.declared.U256.{U256}
 use Rattle.rules.specs.declared.Record.{Record}
@@ -58,6 +59,29 @@ module _ (kind stackPage sp vaddr : ℕ) where
       → _≡_ {A = Located} (record { location = Location.None; sp = sp }) (destinationAt 16 kind stackPage sp vaddr)
   unfolding destinationAt
   destination-none o = rw (ne-eqb kind 2 (o .0 .0), ne-eqb kind 3 (o .0 .1), ne-eqb kind 5 (o .1))
+
+-- the vaddr is looked at for a memory kind alone
+unread : (kind v : ℕ) (at : ℕ → Located) → (kind ≤ 1 → at 0 ≡ at v) → at (cond (leb kind 1) 0 v) ≡ at v
+unread kind v at h = go (leb kind 1) refl
+  where
+    go : (t : Bool) → leb kind 1 ≡ t → at (cond t 0 v) ≡ at v
+    go true e = h (leb-true kind 1 e)
+    go false e = refl
+
+module _ (w kind stackPage codePage sp vaddr : ℕ) where
+  other : (k : ℕ) → 2 ≤ k → kind ≤ 1 → eqb kind k ≡ false
+  other k h l = ne-eqb kind k (λ (e : kind ≡ k). omega arith)
+
+  pub source-vaddr : sourceAt w kind stackPage codePage sp (cond (leb kind 1) 0 vaddr) ≡ sourceAt w kind stackPage codePage sp vaddr
+  unfolding sourceAt
+  source-vaddr =
+      unread kind vaddr (λ v. sourceAt w kind stackPage codePage sp v)
+      (λ l. rw (other 2 (omega arith) l, other 3 (omega arith) l, other 4 (omega arith) l, other 5 (omega arith) l))
+
+  pub destination-vaddr : destinationAt w kind stackPage sp (cond (leb kind 1) 0 vaddr) ≡ destinationAt w kind stackPage sp vaddr
+  unfolding destinationAt
+  destination-vaddr =
+      unread kind vaddr (λ v. destinationAt w kind stackPage sp v) (λ l. rw (other 2 (omega arith) l, other 3 (omega arith) l, other 5 (omega arith) l))
 
 -- the stack page is looked at for a stack kind alone
 stackless : (kind : ℕ) → isStackKind kind ≡ false → (eqb kind 2 ≡ false) × (eqb kind 3 ≡ false) × (eqb kind 5 ≡ false)

@@ -5,20 +5,20 @@ use lib.Dec.{leb, eqb}
 use Rattle.rules.specs.declared.Record.{Record}
 use Rattle.rules.specs.declared.Records.{Records}
 
--- not refused by 3: "a field outside its list, register above 15, destination kind 1 or 4"; the fields after the return kind, and all
-abbrev pub goodRest : Record → Bool
-goodRest r =
-    leb (r .condition) 7
-    && leb (r .«source_kind») 5
+-- ---- not refused by 3: "a field outside its list, register above 15, destination kind 1 or 4"
+-- the kinds of source and destination
+abbrev pub goodKinds : Record → Bool
+goodKinds r =
+    leb (r .«source_kind») 5
     && leb (r .«destination_kind») 5
     && not (eqb (r .«destination_kind») 1)
     && not (eqb (r .«destination_kind») 4)
-    && leb (r .src0) 15
-    && leb (r .src1) 15
-    && leb (r .dst0) 15
+
+abbrev pub goodRegisters : Record → Bool
+goodRegisters r = leb (r .src0) 15 && leb (r .src1) 15 && leb (r .dst0) 15
 
 abbrev pub goodRecord : Record → Bool
-goodRecord r = leb (r .operation) 5 && leb (r .«return_kind») 2 && goodRest r
+goodRecord r = leb (r .operation) 5 && leb (r .«return_kind») 2 && leb (r .condition) 7 && goodKinds r && goodRegisters r
 
 -- a panic return
 abbrev pub isPanic : Record → Bool

@@ -1,5 +1,8 @@
 // Where an operand lies, after the Rust's `mem_ops.rs`.
 ghost use mathlib.Core.Path.{_≡_};
+ghost use mathlib.Core.Bool.{cond};
+ghost use lib.Dec.{leb};
+ghost use Rattle.registers.specs.Registers.{registerOf};
 ghost use Rattle.rules.specs.Address.{vaddrOf, isStackKind, lacksStackPage, sourceAt, destinationAt, sourceRead, placesOf};
 use crate::Located;
 use crate::Location;
@@ -105,13 +108,23 @@ fn read_of(nop: bool, source: Location) -> Location
     if nop { Location::None } else { source }
 }
 
+// The vaddr of an operand in memory, and 0 of one that is not: nobody looks at that, so that no register has to be picked for it.
+fn memory_vaddr(kind: u8, registers: [U256; 15], n: u8, imm: u16) -> u16
+    ensures { λ r. ⌜ r ≡ cond (leb kind 1) 0 (vaddrOf 16 (registerOf registers n) imm) ⌝ }
+{
+    if kind <= 1 {
+        return 0;
+    }
+    vaddr(registers::select(registers, n), imm)
+}
+
 // Source first, then destination on the changed sp.
 pub fn places(r: Record, registers: [U256; 15], stack_page: u32, code_page: u32, sp: u16) -> Places
     ensures { λ p. ⌜ p ≡ placesOf 16 r registers «stack_page» «code_page» sp ⌝ }
 {
-    let read = vaddr(registers::select(registers, r.src0), r.imm_0);
+    let read = memory_vaddr(r.source_kind, registers, r.src0, r.imm_0);
     let source = source_at(r.source_kind, stack_page, code_page, sp, read);
-    let written = vaddr(registers::select(registers, r.dst0), r.imm_1);
+    let written = memory_vaddr(r.destination_kind, registers, r.dst0, r.imm_1);
     let destination = destination_at(r.destination_kind, stack_page, source.sp, written);
     let from = source.location;
     let to = destination.location;

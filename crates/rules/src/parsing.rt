@@ -1,28 +1,33 @@
 // Records: the lists of their fields, and the choice of the one that is kept.
 ghost use mathlib.Core.Path.{_≡_};
 ghost use mathlib.Core.Bool.{cond};
-ghost use Rattle.rules.specs.Record.{goodRest, goodRecord, isPanic, isNop, badRecords};
+ghost use Rattle.rules.specs.Record.{goodKinds, goodRegisters, goodRecord, isPanic, isNop, badRecords};
 use crate::Record;
 use crate::Records;
 
-// The fields after the return kind.
-fn good_rest(r: Record) -> bool
-    ensures { λ b. ⌜ b ≡ goodRest r ⌝ }
+fn good_kinds(r: Record) -> bool
+    ensures { λ b. ⌜ b ≡ goodKinds r ⌝ }
 {
-    (r.condition <= 7)
-        & (r.source_kind <= 5)
+    (r.source_kind <= 5)
         & (r.destination_kind <= 5)
         & !(r.destination_kind == 1)
         & !(r.destination_kind == 4)
-        & (r.src0 <= 15)
-        & (r.src1 <= 15)
-        & (r.dst0 <= 15)
+}
+
+fn good_registers(r: Record) -> bool
+    ensures { λ b. ⌜ b ≡ goodRegisters r ⌝ }
+{
+    (r.src0 <= 15) & (r.src1 <= 15) & (r.dst0 <= 15)
 }
 
 pub fn good_record(r: Record) -> bool
     ensures { λ b. ⌜ b ≡ goodRecord r ⌝ }
 {
-    (r.operation <= 5) & (r.return_kind <= 2) & good_rest(r)
+    (r.operation <= 5)
+        & (r.return_kind <= 2)
+        & (r.condition <= 7)
+        & good_kinds(r)
+        & good_registers(r)
 }
 
 pub fn is_panic(r: Record) -> bool
@@ -38,21 +43,42 @@ pub fn is_nop(r: Record) -> bool
 }
 
 // Refusal 3 of decode. The last three say whether execution has ended, an exception is pending, and decode sets some flag. What a panic and a nop record are has
-// their operation, and a panic's return kind, in its list.
+// their operation, and a panic's return kind, in its list. Few tests at a time: after one test of all the compiler would not know what holds of each field, and
+// operands would test the kept record again.
 pub fn bad_records(r: Records, ended: bool, pending: bool, flagged: bool) -> bool
     ensures { λ b. ⌜ b ≡ badRecords r ended pending flagged ⌝ }
 {
     let plain = r.plain;
     let panic = r.panic;
     let nop = r.nop;
-    !good_record(plain)
-        | !is_panic(panic)
-        | !good_rest(panic)
-        | !is_nop(nop)
-        | !(nop.return_kind <= 2)
-        | !good_rest(nop)
-        | (ended & !(is_nop(plain) & !flagged))
-        | (pending & !is_panic(plain))
+    if !((plain.operation <= 5) & (plain.return_kind <= 2) & (plain.condition <= 7)) {
+        return true;
+    }
+    if !is_panic(panic) | !(panic.condition <= 7) {
+        return true;
+    }
+    if !is_nop(nop) | !(nop.return_kind <= 2) | !(nop.condition <= 7) {
+        return true;
+    }
+    if !good_kinds(plain) {
+        return true;
+    }
+    if !good_kinds(panic) {
+        return true;
+    }
+    if !good_kinds(nop) {
+        return true;
+    }
+    if !good_registers(plain) {
+        return true;
+    }
+    if !good_registers(panic) {
+        return true;
+    }
+    if !good_registers(nop) {
+        return true;
+    }
+    (ended & !(is_nop(plain) & !flagged)) | (pending & !is_panic(plain))
 }
 
 // The same record, field by field: a choice between whole structs costs a factor of three.

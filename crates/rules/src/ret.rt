@@ -1,18 +1,26 @@
 // The sums of a local return.
 ghost use mathlib.Core.Path.{_≡_};
-ghost use mathlib.Core.Bool.{cond, _||_};
+ghost use mathlib.Core.Bool.{true, cond, _||_};
 ghost use lib.Dec.{eqb};
+ghost use lib.IntN.{pos};
 ghost use Rattle.rules.specs.Ret.{pubdataAfter, counterAfter, isOutside, isBadCounter, costOf, returnPc, ergsPast, isShrunk, resumedWith};
 use crate::Record;
 use frame::Frame;
 use frame::PubdataCost;
 use signed::Checked;
 
+// Most frames spend no pubdata: then neither sum has to be made.
+fn is_none(cost: PubdataCost) -> bool
+    ensures { λ r. ⌜ (r ≡ true → cost .0 ≡ pos 0) ⌝ }
+{
+    (0 <= cost.0) & (cost.0 <= 0)
+}
+
 // The caller's pubdata: on ok the closed frame's is added.
 pub fn pubdata_after(ok: bool, caller: PubdataCost, closed: PubdataCost) -> Checked
     ensures { λ r. ⌜ r ≡ pubdataAfter ok (caller .0) (closed .0) ⌝ }
 {
-    if ok {
+    if ok & !is_none(closed) {
         signed::checked_add(caller.0, closed.0)
     } else {
         Checked::Fits(caller.0)
@@ -23,7 +31,7 @@ pub fn pubdata_after(ok: bool, caller: PubdataCost, closed: PubdataCost) -> Chec
 pub fn counter_after(ok: bool, counter: PubdataCost, closed: PubdataCost) -> Checked
     ensures { λ r. ⌜ r ≡ counterAfter ok (counter .0) (closed .0) ⌝ }
 {
-    if ok {
+    if ok | is_none(closed) {
         Checked::Fits(counter.0)
     } else {
         signed::checked_sub(counter.0, closed.0)

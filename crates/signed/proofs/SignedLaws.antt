@@ -40,6 +40,11 @@ fits-true : (z : ℤ) → SFits w32 z → true ≡ fitsSigned 32 z
 fits-true (pos n) f = sym (lt-ltb _ _ (f .sfits))
 fits-true (negsuc n) f = sym (lt-ltb _ _ (f .sfits))
 
+-- a number that fits is its own answer
+pub fitting : (z : ℤ) → SFits w32 z → Checked.Fits z ≡ checkedOf z
+unfolding checkedOf
+fitting z f = rw (← fits-true z f)
+
 fits-of : (z : ℤ) → fitsSigned 32 z ≡ true → SFits w32 z
 fits-of (pos n) e = record { sfits = ltb-true n 2147483648 e }
 fits-of (negsuc n) e = record { sfits = ltb-true n 2147483648 e }
