@@ -75,10 +75,11 @@ fn read_opcode<M: Memory>(local_state: &VmLocalState, memory: &mut M, delayed_ch
 #[inline(always)]
 fn check_exceptions(local_state: &VmLocalState, opcode: &DecodedOpcode, error_flags: &mut ErrorFlags) {
     let current_stack = local_state.callstack.get_current_stack();
+    let is_kernel = current_stack.is_kernel_mode();
     if opcode.is_explicit_panic {
         error_flags.insert(ErrorFlags::INVALID_OPCODE);
     }
-    if opcode.requires_kernel_mode && !current_stack.is_kernel_mode() {
+    if opcode.requires_kernel_mode && !is_kernel {
         error_flags.insert(ErrorFlags::PRIVILAGED_ACCESS_NOT_FROM_KERNEL);
     }
     if !opcode.can_be_used_in_static_context && current_stack.is_static {
@@ -138,8 +139,8 @@ fn read_and_decode<'r, M: Memory, const BY_VALUE: bool>(
 
 /// Erases the metadata of a pointer, its two low words, where the instruction may not have one.
 #[inline]
-fn erase_if_unwanted(value: &mut PrimitiveValue, can_be_pointer: bool, current_stack: &CallStackEntry) {
-    if !can_be_pointer && value.is_pointer && !current_stack.is_kernel_mode() {
+fn erase_if_unwanted(value: &mut PrimitiveValue, can_be_pointer: bool, is_kernel_mode: bool) {
+    if !can_be_pointer && value.is_pointer && !is_kernel_mode {
         value.value.0[0] = 0;
         value.value.0[1] = 0;
         value.is_pointer = false;
@@ -183,9 +184,9 @@ impl VmLocalState<'_> {
         if !skip_cycle {
             new_pc = new_pc.wrapping_add(1);
         }
-        let current_stack = self.callstack.get_current_stack();
-        erase_if_unwanted(&mut src0, opcode.src0_can_be_pointer, current_stack);
-        erase_if_unwanted(&mut src1, opcode.src1_can_be_pointer, current_stack);
+        let is_kernel_mode = self.callstack.get_current_stack().is_kernel_mode();
+        erase_if_unwanted(&mut src0, opcode.src0_can_be_pointer, is_kernel_mode);
+        erase_if_unwanted(&mut src1, opcode.src1_can_be_pointer, is_kernel_mode);
         PreState {
             src0,
             src1,

@@ -1,7 +1,7 @@
 //! The cycle of docs/src in plain Rust, for near call, add, sub, nop and a return from a local frame: its functions in its order, with
 //! its names and its checks, and the frames in an array.
 //!
-//! Parsing, memory, logs, tracers and block properties are the caller's. Kernel mode is asked for only where the answer is used.
+//! Parsing, memory, logs, tracers and block properties are the caller's.
 mod add;
 mod cycle;
 mod execution_stack;
