@@ -1,11 +1,12 @@
 -- Turns of a run, one after the other. Assumes nothing.
 use Prim.Native.Nat.{ℕ, zero, suc, _+_, _*_, _-_, _%_, _^_, _≤_, _<_}
 use mathlib.Core.Bool.{Bool, true, false, cond, _&&_}
-use mathlib.Core.Path.{_≡_, refl, sym, subst, ap, _∙_}
+use mathlib.Core.Path.{_≡_, refl, sym, ap, _∙_}
 use mathlib.Core.List.{List}
 use native.Mathlib.Omega.{arith}
-use lib.Dec.{T, eqb, leb, ltb}
+use lib.Dec.{eqb, leb, ltb}
 use borrow.Author.Tests.{ltb-true, ltb-false, leb-true, lt-leb, le-leb}
+use Rattle.rules.proofs.RecordLaws.{both}
 use Rattle.cycle.specs.declared.State.{State}
 use Rattle.stepper.specs.declared.Input.{Input}
 use Rattle.stepper.specs.Start.{startState}
@@ -13,11 +14,6 @@ use Rattle.stepper.specs.Cycle.{cycleOf, cycleStore}
 use Rattle.bench_lines.specs.declared.CycleOutcome.{CycleOutcome}
 use Rattle.bench_lines.specs.declared.Progress.{Progress}
 use Rattle.bench_lines.specs.Bench.{Bench, nextLine, cyclesOf, cycleOutcome, cycleTurn, turns, runOf}
-
-and-parts : (a b : Bool) → (a && b) ≡ true → (a ≡ true) × (b ≡ true)
-and-parts true true e = (refl, refl)
-and-parts true false e = (refl, e)
-and-parts false b e = (e, absurd (subst T (sym e) tt))
 
 -- ---- positions
 -- the next line begins at the front, or after this one
@@ -77,7 +73,7 @@ started turn width words cycles count ec s store = (ap (λ (n : ℕ). turns turn
 
 -- a run goes on where no cycle was refused and fewer were begun than are to run
 pub early : (count begun number : ℕ) → (eqb number 0 && ltb begun count) ≡ true → begun < count
-early count begun number going = ltb-true begun count (and-parts (eqb number 0) (ltb begun count) going .1)
+early count begun number going = ltb-true begun count (both (eqb number 0) (ltb begun count) going .1)
 
 -- one turn more
 pub more : (turn : Bench → Bench) (width words count : ℕ) → Counts turn width words
@@ -95,7 +91,7 @@ more turn width words count counts a b came going q e = (sym first ∙ came .0, 
     k = omega (arith, l)
 
     unrefused : eqb (b .progress .number) 0 ≡ true
-    unrefused = and-parts (eqb (b .progress .number) 0) (ltb (b .progress .begun) count) going .0
+    unrefused = both (eqb (b .progress .number) 0) (ltb (b .progress .begun) count) going .0
 
     first : turns turn (count - b .progress .begun) b ≡ turns turn (count - q .progress .begun) q
     first = ap (λ (n : ℕ). turns turn n b) k ∙ rw (unrefused, e, counts b .0)

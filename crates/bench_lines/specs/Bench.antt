@@ -1,6 +1,6 @@
 -- A benchmark's run: lines of words are run in turn, one cycle each, and from the front again after the last whole line.
 use Prim.Native.Nat.{ℕ, zero, suc, _+_, _*_, _-_, _%_, _^_}
-use mathlib.Core.Bool.{Bool, cond}
+use mathlib.Core.Bool.{cond}
 use mathlib.Core.List.{List, [], _∷_}
 use lib.Dec.{eqb, leb}
 use Rattle.rules.specs.declared.Flags.{Flags}

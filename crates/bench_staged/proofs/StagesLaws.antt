@@ -1,7 +1,7 @@
 -- The stages one by one: from what they give to the cycle's outcome. Assumes nothing.
 use Prim.Native.Nat.{ℕ}
 use mathlib.Core.Bool.{false}
-use mathlib.Core.Path.{_≡_, ap, sym, _∙_}
+use mathlib.Core.Path.{_≡_, ap, _∙_}
 use mathlib.Core.List.{List}
 use Rattle.u256.specs.declared.U256.{U256}
 use Rattle.rules.specs.declared.Location.{Location}

@@ -1,5 +1,4 @@
 use mathlib.Core.Path.{refl}
-use native.Mathlib.Omega.{arith}
 use borrow.Author.Needs.{needs}
 use Rattle.bench_staged.proofs.MemoryLaws as laws
 use Rattle.bench_staged.proofs.memory.place_of.Statement.{statement}
