@@ -1,3 +1,1 @@
 pub mod TurnsLaws
-pub mod CompletedLaws
-pub mod LineLaws

@@ -1,4 +1,6 @@
 // What the benchmarks' runs share: how far a run has come, what is told at its end, and the reading of a record.
+#![tactic(auto)]
+
 ghost use Rattle.std.specs.Prelude.{◌≡◌, ◌+◌, ◌-◌, ◌%◌, ◌^◌, ◌≤◌, if◌then◌else◌, nat_eq};
 ghost use Rattle.bench_lines.specs.Bench.{cycles_of, flags_number, end_of};
 
@@ -9,7 +11,7 @@ pub use line::{LINE, records_of, want_of};
 use rules::Flags;
 
 // What a cycle gives; the number is that of a refusal, or 0.
-#[derive(Drop)]
+#[derive(Clone, Copy)]
 pub struct CycleOutcome {
     pub state: State,
     pub number: u32,
@@ -17,7 +19,7 @@ pub struct CycleOutcome {
 }
 
 // How far a run has come: the sum of the charges, the cycles begun, where the next line begins, and the number of a refusal or 0.
-#[derive(Drop)]
+#[derive(Clone, Copy)]
 pub struct Progress {
     pub state: State,
     pub charged: u64,
@@ -79,6 +81,7 @@ fn completed_of(begun: u64, number: u32) -> u64
 }
 
 // Writes what is told of a run at its end.
+#[tactic(auto, unfolding(crate::specs::Bench::end_of))]
 pub fn tell(end: &mut [u64; 8], p: Progress)
     ensures { end.new ≡ end_of p }
 {

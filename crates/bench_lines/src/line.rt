@@ -35,6 +35,7 @@ fn is_set(line: &[u64], k: usize) -> bool
     line[k] != 0
 }
 
+#[tactic(auto, unfolding(crate::specs::Line::record_from))]
 fn record_from(line: &[u64], from: usize) -> Record
     requires { (from ≤ 38) × (from + 19 ≤ length line.now) }
     ensures { result ≡ record_from line.now from }
@@ -63,6 +64,7 @@ fn record_from(line: &[u64], from: usize) -> Record
 }
 
 // A line that is lent with a length known to the compiler is read with no test.
+#[tactic(auto, unfolding(crate::specs::Line::line_records))]
 pub fn records_of(line: &[u64]) -> Records
     ensures { result ≡ line_records line.now }
 {

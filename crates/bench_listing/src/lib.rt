@@ -1,4 +1,6 @@
 // Cycles of a listing's lines in memory, for a benchmark: each line is an op, a price and a want.
+#![tactic(auto)]
+
 ghost use Rattle.std.specs.Prelude.{◌≡◌, ◌+◌, ◌≤◌};
 ghost use Rattle.stepper.specs.Cycle.{cycle_of, cycle_store};
 ghost use Rattle.runs.specs.Run.{input_of, requested_state};
@@ -28,7 +30,7 @@ fn next_line(at: usize, words: usize) -> usize
     ensures { result ≡ next_line listing_width words at }
 {
     let after = at + WIDTH;
-    if words - after < WIDTH { 0 } else { after }
+    if words - WIDTH < after { 0 } else { after }
 }
 
 // A line's cycle, as nearbook's: the want in register 1.

@@ -1,4 +1,6 @@
 // Cycles of any records in memory, for a benchmark: each line is three records and a want. The code word and the source word are the same in every cycle.
+#![tactic(auto)]
+
 ghost use Rattle.std.specs.Prelude.{◌≡◌, ◌+◌, ◌≤◌};
 ghost use Rattle.stepper.specs.Cycle.{cycle_of, cycle_store};
 ghost use Rattle.runs.specs.Run.{requested_state};
@@ -16,7 +18,7 @@ fn next_line(at: usize, words: usize) -> usize
     ensures { result ≡ next_line line_width words at }
 {
     let after = at + LINE;
-    if words - after < LINE { 0 } else { after }
+    if words - LINE < after { 0 } else { after }
 }
 
 fn word_of(words: &[u64; 4]) -> U256
@@ -30,6 +32,7 @@ fn word_of(words: &[u64; 4]) -> U256
     }
 }
 
+#[tactic(auto, unfolding(crate::specs::Opaque::opaque_input))]
 fn input_of(line: &[u64], code: U256, source: U256, limit: u32) -> Input
     ensures { result ≡ opaque_input line.now code source limit }
 {

@@ -1,4 +1,6 @@
 // Cycles whose stages are called one by one, for a benchmark, as one who serves a contract calls them: the code query and the source location are answered from a memory.
+#![tactic(auto)]
+
 ghost use Rattle.std.specs.Prelude.{◌≡◌, ◌+◌, ◌≤◌};
 ghost use Rattle.stepper.specs.Start.{settings_of};
 ghost use Rattle.stepper.specs.Cycle.{cycle_of, cycle_store};
@@ -18,7 +20,7 @@ fn next_line(at: usize, words: usize) -> usize
     ensures { result ≡ next_line line_width words at }
 {
     let after = at + LINE;
-    if words - after < LINE { 0 } else { after }
+    if words - LINE < after { 0 } else { after }
 }
 
 fn refused(state: State, number: u32) -> CycleOutcome
@@ -32,6 +34,7 @@ fn refused(state: State, number: u32) -> CycleOutcome
 }
 
 // The four stages, each called once here, so that the compiler inlines them.
+#[tactic(auto, unfolding(crate::specs::Staged::staged_input, stepper::specs::Cycle::cycle_of, stepper::specs::Cycle::cycle_done, stepper::specs::Cycle::cycle_store))]
 fn staged(
     state: State,
     settings: Settings,

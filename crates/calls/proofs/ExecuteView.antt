@@ -1,7 +1,7 @@
 -- Execute of the cycle core as a stage of a machine, by its operations. Assumes nothing.
-use Prim.Native.Nat.{ℕ, suc, ◌+◌, ◌-◌, ◌^◌, ◌≤◌, ◌<◌}
+use Prim.Native.Nat.{ℕ, ◌+◌, ◌-◌, ◌^◌, ◌≤◌, ◌<◌}
 use mathlib.Core.Bool.{Bool, true, false, not, cond, ◌&&◌, ◌||◌}
-use mathlib.Core.Path.{◌≡◌, refl, ap, sym, ◌∙◌, subst}
+use mathlib.Core.Path.{◌≡◌, refl, ap, ◌∙◌}
 use mathlib.Core.List.{List, [], ◌∷◌}
 use native.Mathlib.Omega.{arith}
 use native.Mathlib.Nat.{add-zero, sub-add_cancel, mod-add-div}
@@ -9,6 +9,7 @@ use native.Mathlib.Numerals.{add-one}
 use lib.Dec.{T, eqb, leb, ltb}
 use lib.ListN.{length}
 use mir.Val.{bool_byte}
+use Rattle.std.proofs.lemmas.Bool.Decides.{nat_tests}
 use borrow.Author.Tests.{eqb-true, eqb-false, not-false}
 use Rattle.u256.specs.declared.U256.{U256}
 use Rattle.frame.specs.declared.Frame.{Frame}
@@ -62,16 +63,12 @@ lasting_row f =
     )
 
 -- the frame that reading row i gives is that of its words
+good_frame : (a b : Bool) (f g : Frame) → cond a (cond b (ReadAnswer.Good g) ReadAnswer.NotGood) ReadAnswer.Missing ≡ ReadAnswer.Good f → f ≡ g
+good_frame a b f g = grind arith
+
 read_good : (store : List ℕ) (i : ℕ) (f : Frame) → read_of 16 store i ≡ ReadAnswer.Good f → f ≡ frame_of (row_at store i)
 unfolding read_of
-read_good store i f = go (ltb i (whole_rows store)) (good_row 16 (row_at store i))
-  where
-    go : (a b : Bool)
-        → cond a (cond b (ReadAnswer.Good (frame_of (row_at store i))) ReadAnswer.NotGood) ReadAnswer.Missing ≡ ReadAnswer.Good f
-        → f ≡ frame_of (row_at store i)
-    go true true e = cc
-    go true false e = cc
-    go false b e = cc
+read_good store i f = good_frame (ltb i (whole_rows store)) (good_row 16 (row_at store i)) f (frame_of (row_at store i))
 
 module _ (x : ExecuteInput) (s : State) (store : List ℕ) (at : stage_of s.stage ≡ machines.addressed) where
   abbrev op : ℕ
@@ -163,7 +160,7 @@ module _ (x : ExecuteInput) (s : State) (store : List ℕ) (at : stage_of s.stag
         record { stage_before = at; stage_after = refl },
         rw e
             (record {
-              depth_down = down s.depth d;
+              depth_down = omega arith;
               lasting_back = ap lasting_of read;
               ergs_back = λ l. ap (λ (f : Frame). f.ergs_remaining + s.current.ergs_remaining) read;
               store_same = refl;
@@ -176,9 +173,6 @@ module _ (x : ExecuteInput) (s : State) (store : List ℕ) (at : stage_of s.stag
       ∷ (is_shrunk caller s.current refuses 13)
       ∷ (late_in settings s refuses 14)
       ∷ []) tt)
-    where
-      down : (n : ℕ) → (n ≡ 0 → ⊥) → n ≡ suc (n - 1)
-      down n h = omega arith
   close_view e d ReadAnswer.Missing q = unchanged 1 refl
   close_view e d ReadAnswer.NotGood q = unchanged 8 refl
 
@@ -196,45 +190,11 @@ module _ (x : ExecuteInput) (s : State) (store : List ℕ) (at : stage_of s.stag
       checks = (not s.current.is_local_frame refuses 7) ∷ (eqb s.depth 0 refuses 8) ∷ []
 
 -- the kind of each operation that is not refused
-nop_kind : (o : ℕ) → eqb o 0 ≡ true → operation_of o ≡ machines.neither
-nop_kind o e = ap operation_of (eqb-true o 0 e)
-
 sum_kind : (o : ℕ) → (eqb o 1 || eqb o 2) ≡ true → operation_of o ≡ machines.neither
-sum_kind o = go (eqb o 1) (eqb o 2) refl refl
-  where
-    go : (a b : Bool) → eqb o 1 ≡ a → eqb o 2 ≡ b → (a || b) ≡ true → operation_of o ≡ machines.neither
-    go true b e f q = ap operation_of (eqb-true o 1 e)
-    go false true e f q = ap operation_of (eqb-true o 2 f)
-    go false false e f q = absurd (subst T (sym q) tt)
-
-call_kind : (o : ℕ) → eqb o 3 ≡ true → operation_of o ≡ machines.near_call
-call_kind o e = ap operation_of (eqb-true o 3 e)
+sum_kind o = grind (arith, nat_tests)
 
 ret_kind : (o : ℕ) → o ≤ 5 → eqb o 0 ≡ false → (eqb o 1 || eqb o 2) ≡ false → eqb o 3 ≡ false → eqb o 5 ≡ false → operation_of o ≡ machines.ret
-ret_kind o l e0 e12 e3 e5 = ap operation_of (four (eqb-false o 0 e0) (apart (eqb o 1) (eqb o 2) refl refl e12) (eqb-false o 3 e3) (eqb-false o 5 e5))
-  where
-    apart : (a b : Bool) → eqb o 1 ≡ a → eqb o 2 ≡ b → (a || b) ≡ false → (o ≡ 1 → ⊥) × (o ≡ 2 → ⊥)
-    apart false false e f q = (eqb-false o 1 e, eqb-false o 2 f)
-    apart false true e f q = absurd (subst T q tt)
-    apart true b e f q = absurd (subst T q tt)
-
-    four : (o ≡ 0 → ⊥) → ((o ≡ 1 → ⊥) × (o ≡ 2 → ⊥)) → (o ≡ 3 → ⊥) → (o ≡ 5 → ⊥) → o ≡ 4
-    four a b c d = let b1 = b.0 in let b2 = b.1 in omega arith
-
--- a near call is no other operation
-only : (o k : ℕ) → eqb o k ≡ true → eqb k 3 ≡ false → eqb o 3 ≡ false
-only o k e t = ap (λ (n : ℕ). eqb n 3) (eqb-true o k e) ∙ t
-
-only_sum : (o : ℕ) → (eqb o 1 || eqb o 2) ≡ true → eqb o 3 ≡ false
-only_sum o = go (eqb o 1) (eqb o 2) refl refl
-  where
-    go : (a b : Bool) → eqb o 1 ≡ a → eqb o 2 ≡ b → (a || b) ≡ true → eqb o 3 ≡ false
-    go true b e f q = only o 1 e refl
-    go false true e f q = only o 2 f refl
-    go false false e f q = absurd (subst T (sym q) tt)
-
-clashing : {A : Type 0} → ◌≡◌ {A = Bool} true false → A
-clashing e = absurd (subst T e tt)
+ret_kind o = grind (arith, nat_tests)
 
 pub execute_view : (x : ExecuteInput) (s : State) (store : List ℕ)
     → View execute_numbers s store (execute_outcome x s store)
@@ -290,9 +250,9 @@ execute_view x s store =
         (cond p (nop_of x.settings s)
         (cond q (arithmetic_of x.settings a b s) (cond r (near_call_of x.settings (want_in x.word x.pointer s) s) (return_of x.settings s store))))
         (cond r (near_call_store x.settings (want_in x.word x.pointer s) s store) store)
-    chosen at sized l e5 true q true e0 e12 e3 = clashing (sym e3 ∙ only o 0 e0 refl)
-    chosen at sized l e5 true q false e0 e12 e3 = nop_view x s store at (nop_kind o e0)
-    chosen at sized l e5 false true true e0 e12 e3 = clashing (sym e3 ∙ only_sum o e12)
+    chosen at sized l e5 true q true e0 e12 e3 = absurd (grind (arith, nat_tests))
+    chosen at sized l e5 true q false e0 e12 e3 = nop_view x s store at (ap operation_of (eqb-true o 0 e0))
+    chosen at sized l e5 false true true e0 e12 e3 = absurd (grind (arith, nat_tests))
     chosen at sized l e5 false true false e0 e12 e3 = arithmetic_view x s store at a b (sum_kind o e12)
-    chosen at sized l e5 false false true e0 e12 e3 = call_view x s store at (call_kind o e3) sized
+    chosen at sized l e5 false false true e0 e12 e3 = call_view x s store at (ap operation_of (eqb-true o 3 e3)) sized
     chosen at sized l e5 false false false e0 e12 e3 = return_view x s store at (ret_kind o l e0 e12 e3 e5)

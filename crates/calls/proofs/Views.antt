@@ -1,11 +1,13 @@
 -- A stage's outcome is a refusal that changes nothing, or finished with what the stage does. Assumes nothing.
 use Prim.Native.Nat.{ℕ}
-use mathlib.Core.Bool.{Bool, true, false, cond, ◌||◌}
-use mathlib.Core.Path.{◌≡◌, refl, sym, ap, ◌∙◌, subst}
+use mathlib.Core.Bool.{Bool, true, false, cond}
+use mathlib.Core.Path.{◌≡◌, refl}
 use mathlib.Core.Logic.{◌⊎◌, inl, inr}
 use mathlib.Core.List.{List, [], ◌∷◌}
 use lib.Dec.{T, eqb}
-use borrow.Author.Tests.{eqb-true, eqb-false, eq-eqb}
+use native.Mathlib.Omega.{arith}
+use borrow.Author.Tests.{eqb-true, eqb-false}
+use Rattle.std.proofs.lemmas.Bool.Decides.{nat_tests}
 use Rattle.frame.specs.Refusal.{Check, first_of}
 use Rattle.cycle.specs.declared.State.{State}
 use Rattle.cycle.specs.State.{settled}
@@ -18,16 +20,13 @@ pub data View (numbers : List ℕ) (s : State) (store : List ℕ) (o : Outcome S
   refused : Refusal numbers s store o → View numbers s store o Done
   done : finished o ≡ true → Done → View numbers s store o Done
 
-clash : {A : Type 0} (b : Bool) → b ≡ true → b ≡ false → A
-clash b t f = absurd (subst T (sym t ∙ f) tt)
-
 module _ {numbers : List ℕ} {s : State} {store : List ℕ} {o : Outcome State} {Done : Type 0} where
   pub if_refused : View numbers s store o Done → finished o ≡ false → Unchanged core s store o
   if_refused (refused r) e = r.unchanged
-  if_refused (done t d) e = clash (finished o) t e
+  if_refused (done t d) e = absurd (cc)
 
   pub if_done : View numbers s store o Done → finished o ≡ true → Done
-  if_done (refused r) e = clash (finished o) e (rw r.told)
+  if_done (refused r) e = let h : finished o ≡ false = rw r.told in absurd (cc)
   if_done (done t d) e = d
 
   pub either : View numbers s store o Done → (finished o ≡ true) ⊎ Refusal numbers s store o
@@ -60,27 +59,12 @@ numbers_in [] = []
 numbers_in (c ∷ cs) = c.number ∷ numbers_in cs
 
 widen : (n : ℕ) (ns ms : List ℕ) → T (within ns ms) → is_one_of n ns ≡ true → is_one_of n ms ≡ true
-widen n [] ms t e = absurd (subst T (sym e) tt)
-widen n (k ∷ ns) ms t e = go (is_one_of k ms) (eqb n k) refl refl t e (λ t e. widen n ns ms t e)
-  where
-    go : (a b : Bool) → is_one_of k ms ≡ a → eqb n k ≡ b → T (cond a (within ns ms) false) → (b || is_one_of n ns) ≡ true
-        → (T (within ns ms) → is_one_of n ns ≡ true → is_one_of n ms ≡ true) → is_one_of n ms ≡ true
-    go true true p q t e rest = ap (λ (j : ℕ). is_one_of j ms) (eqb-true n k q) ∙ p
-    go true false p q t e rest = rest t e
-    go false b p q t e rest = absurd t
+widen n [] ms t e = absurd (cc)
+widen n (k ∷ ns) ms t e = grind (arith, nat_tests, widen n ns ms)
 
 first_in : (cs : List Check) → (first_of cs ≡ 0 → ⊥) → is_one_of (first_of cs) (numbers_in cs) ≡ true
 first_in [] h = absurd (h refl)
-first_in (c ∷ cs) h = go c.holds h (λ h. first_in cs h)
-  where
-    go : (b : Bool) → (cond b c.number (first_of cs) ≡ 0 → ⊥) → ((first_of cs ≡ 0 → ⊥) → is_one_of (first_of cs) (numbers_in cs) ≡ true)
-        → is_one_of (cond b c.number (first_of cs)) (c.number ∷ numbers_in cs) ≡ true
-    go true h rest = rw (eq-eqb c.number c.number refl)
-    go false h rest = or_right (eqb (first_of cs) c.number) (rest h)
-      where
-        or_right : (a : Bool) {b : Bool} → b ≡ true → (a || b) ≡ true
-        or_right true e = refl
-        or_right false e = e
+first_in (c ∷ cs) h = grind (arith, nat_tests, first_in cs)
 
 -- the number of checks that refuse is one of a list that has all theirs
 pub listed : (cs : List Check) (ms : List ℕ) → T (within (numbers_in cs) ms) → (first_of cs ≡ 0 → ⊥) → is_one_of (first_of cs) ms ≡ true

@@ -1,10 +1,10 @@
--- Where operands gave no source location, execute does not look at the word; where the query wanted none, fetch does not. Assumes nothing.
+-- Where operands gave no source location, execute does not look at the word. Assumes nothing.
 use Prim.Native.Nat.{ℕ, zero, suc, ◌≤◌}
 use mathlib.Core.Bool.{Bool, true, false, not, cond}
-use mathlib.Core.Path.{◌≡◌, refl, ap, subst}
+use mathlib.Core.Path.{◌≡◌, refl, ap}
 use mathlib.Core.List.{List, [], ◌∷◌}
 use native.Mathlib.Omega.{arith}
-use lib.Dec.{T, eqb}
+use lib.Dec.{eqb}
 use borrow.Author.Tests.{not-false}
 use Rattle.u256.specs.declared.U256.{U256}
 use Rattle.frame.specs.Refusal.{Check, ◌refuses◌}
@@ -23,10 +23,7 @@ use Rattle.cycle.specs.declared.OperandsAnswer.{OperandsAnswer}
 use Rattle.cycle.specs.State.{bad_store, out_of_turn, decoded}
 use Rattle.cycle.specs.Operands.{record_of, stack_page, places_in, operands_refusal, addressed_state, operands_done, operands_of}
 use Rattle.cycle.specs.Execute.{sources_in, execute_done, execute_of, execute_store}
-use Rattle.cycle.specs.Fetch.{code_wanted, location_if, query_of, fetch_done, fetch_of}
-use Rattle.cycle.specs.Helpers.{is_stored}
-use Rattle.rules.specs.Code.{super_pc}
-use Rattle.calls.specs.SourceWord.{ExecutesAlike, WordUnread, CodeUnread}
+use Rattle.calls.specs.SourceWord.{ExecutesAlike, WordUnread}
 use Rattle.calls.proofs.Views.{by_number}
 
 -- a source with no location is not the word read: it is a register, the immediate, or a nop's
@@ -71,7 +68,7 @@ word_unread settings s store destination given later after word other pointer bi
     alike later (operands_done 16 s).state after word other pointer bit
     (sources_same (record_of s) s.registers s.pointers 16 (stack_page s) s.current.code_page s.current.sp word other pointer bit
     (not-false (good_record (record_of s)) c.1.1.0) none))
-    (λ h e. absurd (never e))
+    (λ h e. absurd (cc))
     given
   where
     checks : List Check
@@ -81,15 +78,3 @@ word_unread settings s store destination given later after word other pointer bi
         ∷ (not (good_record (record_of s)) refuses 3)
         ∷ (lacks_stack_page (record_of s) s.current.base_memory_page refuses 14)
         ∷ []
-
-    never : {n : ℕ} → OperandsAnswer.Refused n ≡ OperandsAnswer.Done Location.None destination → ⊥
-    never e = let z : ◌≡◌ {A = ℕ} 0 1 = cc in omega arith
-
--- ---- the code word
-no_query : (wanted : Bool) (page index : ℕ) → location_if wanted page index ≡ Location.None → wanted ≡ false
-no_query true page index e = absurd (subst T (ap is_stored e) tt)
-no_query false page index e = refl
-
-pub code_unread : CodeUnread
-unfolding query_of fetch_of fetch_done
-code_unread settings s store e word other = rw (no_query (code_wanted s) s.current.code_page (super_pc s.current.pc) e)

@@ -1,4 +1,6 @@
 // What is claimed of the cycle core as a whole, each claim in a contract, so that it is proved with every check.
+#![tactic(auto)]
+
 ghost use Rattle.lists.specs.Claims.{CallersResume, CyclesCover, FramesCounted};
 ghost use Rattle.calls.specs.Core.{core};
 ghost use Rattle.calls.specs.Answers.{EveryCallAnswers, EveryEntryAnswers, ChargeAnswered};
@@ -11,11 +13,13 @@ pub fn every_call_answers()
 {}
 
 // Demand 1 for the tally: each entry is made, or refused with 15 and changes nothing.
+#[tactic(auto, unfolding(tally::specs::Tally::enter_of, tally::specs::Tally::tally_after))]
 pub fn every_entry_answers()
     ensures { EveryEntryAnswers }
 {}
 
 // What decode answers as its charge is what demand 3 counts.
+#[tactic(auto, unfolding(cycle::specs::Decode::decode_of, cycle::specs::Decode::decode_done, lists::specs::Machine::charge_of))]
 pub fn charge_answered()
     ensures { ChargeAnswered }
 {}
@@ -42,6 +46,7 @@ pub fn word_unread()
 {}
 
 // Where the query wanted no code word, what fetch does is the same for every word.
+#[tactic(auto, unfolding(cycle::specs::Fetch::query_of, cycle::specs::Fetch::fetch_of, cycle::specs::Fetch::fetch_done))]
 pub fn code_unread()
     ensures { CodeUnread }
 {}

@@ -1,9 +1,4 @@
-pub mod FetchLaws
-pub mod DecodeLaws
 pub mod OperandsLaws
-pub mod HelperLaws
 pub mod NearCallLaws
-pub mod RetLaws
-pub mod ArithmeticLaws
-pub mod ExecuteLaws
 pub mod AnswerLaws
+pub mod ExecuteLaws

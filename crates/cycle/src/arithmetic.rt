@@ -22,6 +22,7 @@ fn register(stored: bool, n: u8) -> u8
 }
 
 impl State {
+    #[tactic(auto, unfolding(crate::specs::Arithmetic::arithmetic_of, crate::specs::Arithmetic::arithmetic_done))]
     pub(crate) fn arithmetic(self, settings: Settings, a: U256, b: U256) -> Executed
         ensures { result ≡ arithmetic_of settings a b self }
     {

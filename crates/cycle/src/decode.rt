@@ -9,7 +9,7 @@ use crate::{DecodeAnswer, Decoded, Kept, State};
 use rules::{Location, Record, Records, Settings, decode, fetch, parsing, refusal};
 
 // What decode charges, and the ergs that are left.
-#[derive(Drop)]
+#[derive(Clone, Copy)]
 pub(crate) struct Paid {
     pub charge: u32,
     pub ergs: u32,
@@ -45,6 +45,7 @@ fn super_pc_or(has_word: bool, pc: u16, previous: u16) -> u16
 
 impl State {
     // The delayed changes show from here, with the ergs and the kept record.
+    #[tactic(auto, unfolding(crate::specs::Decode::decoded_state, frame::specs::Fields::with_ergs))]
     fn decoded(self, ergs: u32, instruction: Record) -> State
         ensures { result ≡ decoded_state self ergs instruction }
     {
@@ -71,6 +72,7 @@ impl State {
         next
     }
 
+    #[tactic(auto, using(rules::proofs::ChargeLaws::covered), unfolding(crate::specs::Decode::decode_of, crate::specs::Decode::decode_done, rules::specs::Charge::error_flags))]
     pub fn decode(self, settings: Settings, store: &[u32], records: Records) -> Decoded
         ensures { (result ≡ decode_of settings records self store.now)
             × (decode_number result.answer ≡ decode_refusal settings records self store.now)

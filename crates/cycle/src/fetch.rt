@@ -35,6 +35,7 @@ fn code_answer(ended: bool, pending: bool, bits: u64) -> FetchAnswer
 }
 
 impl State {
+    #[tactic(auto, unfolding(crate::specs::Fetch::fetched_state))]
     fn fetched(self, wanted: bool, word: U256) -> State
         ensures { result ≡ fetched_state self wanted word }
     {
@@ -46,6 +47,7 @@ impl State {
     }
 
     // Whether a code read is wanted, and from where.
+    #[tactic(auto, unfolding(crate::specs::Fetch::query_of))]
     pub fn code_query(self) -> Location
         ensures { (result ≡ query_of self) × (location_case result ≡ query_tells self) }
     {
@@ -62,6 +64,7 @@ impl State {
     }
 
     // The word is the one that the query asked for, and is not looked at where it asked for none.
+    #[tactic(auto, unfolding(crate::specs::Fetch::fetch_of, crate::specs::Fetch::fetch_done))]
     pub fn fetch(self, settings: Settings, store: &[u32], word: U256) -> Fetched
         ensures { (result ≡ fetch_of settings word self store.now)
             × (fetch_number result.answer ≡ fetch_refusal settings self store.now)

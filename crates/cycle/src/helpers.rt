@@ -129,6 +129,7 @@ impl State {
     }
 
     // Ready for the next cycle.
+    #[tactic(auto, unfolding(crate::specs::Effects::finished_state))]
     pub(crate) fn finished(self, time: u32, counter: u32) -> State
         ensures { result ≡ finished_state self time counter }
     {
@@ -153,6 +154,7 @@ impl State {
         next
     }
 
+    #[tactic(auto, unfolding(crate::specs::Effects::moved_state, frame::specs::Fields::with_pc))]
     pub(crate) fn moved(self, pc: u16) -> State
         ensures { result ≡ moved_state self pc }
     {
@@ -161,6 +163,7 @@ impl State {
         next
     }
 
+    #[tactic(auto, unfolding(crate::specs::Effects::written_state))]
     pub(crate) fn written(self, flags: Flags, n: u8, word: U256) -> State
         ensures { result ≡ written_state self flags n word }
     {
@@ -175,6 +178,7 @@ impl State {
         next
     }
 
+    #[tactic(auto, unfolding(crate::specs::Effects::switched_state))]
     pub(crate) fn switched(self, f: Frame, depth: u32, flags: Flags, counter: PubdataCost) -> State
         ensures { result ≡ switched_state self f depth flags counter }
     {
@@ -218,6 +222,7 @@ impl State {
     }
 
     // Nop sets pc only.
+    #[tactic(auto, unfolding(crate::specs::Helpers::nop_of, crate::specs::Helpers::nop_done))]
     pub(crate) fn nop(self, settings: Settings) -> Executed
         ensures { result ≡ nop_of settings self }
     {

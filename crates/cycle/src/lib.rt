@@ -1,4 +1,6 @@
 // The machine state, and the stages of a cycle as methods on it.
+#![tactic(auto)]
+
 mod arithmetic;
 mod decode;
 mod execute;
@@ -13,7 +15,7 @@ use rules::{ErrorFlags, Flags, Location, PrimitiveValue, Record};
 use u256::U256;
 
 // What decode and operands keep for the stages after them.
-#[derive(Drop)]
+#[derive(Clone, Copy)]
 pub struct Kept {
     pub instruction: Record,
     pub write: Location,
@@ -21,7 +23,7 @@ pub struct Kept {
 
 // The fields of the Rust's `VmLocalState` that the stages use, the current frame, and what one stage leaves to the next. A pointer bit
 // beside its word, or a hole of 3, 5, 6 or 7 bytes, would slow each copy down.
-#[derive(Drop)]
+#[derive(Clone, Copy)]
 pub struct State {
     pub registers: [U256; 15],
     pub current: Frame,
@@ -43,7 +45,7 @@ pub struct State {
     pub pending_exception: bool,
 }
 
-#[derive(Drop)]
+#[derive(Clone, Copy)]
 pub enum FetchAnswer {
     Code(u64),
     Exception,
@@ -51,26 +53,26 @@ pub enum FetchAnswer {
     Refused(u32),
 }
 
-#[derive(Drop)]
+#[derive(Clone, Copy)]
 pub struct Fetched {
     pub state: State,
     pub answer: FetchAnswer,
 }
 
-#[derive(Drop)]
+#[derive(Clone, Copy)]
 pub enum DecodeAnswer {
     // The charge first, where Refused has its number: elsewhere the answer would stay in memory.
     Done { charge: u32, errors: ErrorFlags },
     Refused(u32),
 }
 
-#[derive(Drop)]
+#[derive(Clone, Copy)]
 pub struct Decoded {
     pub state: State,
     pub answer: DecodeAnswer,
 }
 
-#[derive(Drop)]
+#[derive(Clone, Copy)]
 pub enum OperandsAnswer {
     Done {
         source: Location,
@@ -79,14 +81,14 @@ pub enum OperandsAnswer {
     Refused(u32),
 }
 
-#[derive(Drop)]
+#[derive(Clone, Copy)]
 pub struct Addressed {
     pub state: State,
     pub answer: OperandsAnswer,
 }
 
 // What is to be written to memory, if anything.
-#[derive(Drop)]
+#[derive(Clone, Copy)]
 pub enum Write {
     None,
     At {
@@ -99,20 +101,20 @@ pub enum Write {
 }
 
 // What happened to the frames: closed carries its panicked bit.
-#[derive(Drop)]
+#[derive(Clone, Copy)]
 pub enum Event {
     None,
     Opened,
     Closed(bool),
 }
 
-#[derive(Drop)]
+#[derive(Clone, Copy)]
 pub enum ExecuteAnswer {
     Done { write: Write, event: Event },
     Refused(u32),
 }
 
-#[derive(Drop)]
+#[derive(Clone, Copy)]
 pub struct Executed {
     pub state: State,
     pub answer: ExecuteAnswer,

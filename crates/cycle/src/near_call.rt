@@ -8,6 +8,7 @@ use rules::{Settings, near_call, refusal, time};
 
 impl State {
     // The caller's row is written at the first free row.
+    #[tactic(auto, using(crate::proofs::NearCallLaws::room), unfolding(crate::specs::NearCall::near_call_of, crate::specs::NearCall::near_call_done, crate::specs::NearCall::near_call_store))]
     pub(crate) fn near_call(self, settings: Settings, want: u32, store: &mut [u32]) -> Executed
         requires { bad_store settings self store.old ≡ false }
         ensures { (result ≡ near_call_of settings want self) × (store.new ≡ near_call_store settings want self store.old) }

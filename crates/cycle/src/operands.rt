@@ -8,6 +8,7 @@ use crate::{Addressed, Kept, OperandsAnswer, State};
 use rules::{Location, Settings, mem_ops, parsing, refusal};
 
 impl State {
+    #[tactic(auto, unfolding(crate::specs::Operands::addressed_state, frame::specs::Fields::with_sp))]
     fn addressed(self, sp: u16, write: Location) -> State
         ensures { result ≡ addressed_state self sp write }
     {
@@ -21,6 +22,7 @@ impl State {
         next
     }
 
+    #[tactic(auto, using(crate::proofs::OperandsLaws::places_exact, crate::proofs::OperandsLaws::places_told), unfolding(crate::specs::Operands::operands_of, crate::specs::Operands::operands_done))]
     pub fn operands(self, settings: Settings, store: &[u32]) -> Addressed
         ensures { (result ≡ operands_of settings self store.now)
             × (operands_number result.answer ≡ operands_refusal settings self store.now)
@@ -35,7 +37,7 @@ impl State {
         let turn = !(self.stage == 2);
         if sizes | turn | bad | lacking {
             let n = refusal::first_number(sizes, turn, refusal::either_number(bad, 3, 14));
-            // Apart here too: the compiler would else keep sp and pc in one piece in every cycle.
+            // Apart here too: the compiler would else keep sp and pc in one piece, where the records are not known to it.
             return Addressed {
                 state: self.apart(),
                 answer: OperandsAnswer::Refused(n),

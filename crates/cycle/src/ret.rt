@@ -18,6 +18,7 @@ fn panic_flags(panic: bool) -> Flags
 
 impl State {
     // The caller is the frame of the top row.
+    #[tactic(auto, unfolding(crate::specs::Ret::close_of, crate::specs::Ret::close_done, rules::specs::Ret::resumed_of))]
     fn close(self, settings: Settings, caller: Frame) -> Executed
         ensures { result ≡ close_of settings caller self }
     {
@@ -50,6 +51,7 @@ impl State {
         }
     }
 
+    #[tactic(auto, unfolding(crate::specs::Ret::return_of))]
     pub(crate) fn ret(self, settings: Settings, store: &[u32]) -> Executed
         ensures { result ≡ return_of settings self store.now }
     {

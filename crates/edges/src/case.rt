@@ -6,7 +6,7 @@ use stepper::{CycleAnswer, Input};
 use u256::U256;
 
 // Depth 1 of a limit of 4. All that is not named here is 0 or no.
-#[derive(Drop)]
+#[derive(Clone, Copy)]
 pub(crate) struct Case {
     pub r1: U256,
     pub r2: U256,
@@ -33,7 +33,7 @@ pub(crate) struct Case {
 }
 
 // What the answers say, where none is a refusal.
-#[derive(Drop)]
+#[derive(Clone, Copy)]
 pub(crate) struct Seen {
     pub read: Location,
     pub source: Location,
@@ -44,7 +44,7 @@ pub(crate) struct Seen {
 }
 
 // The number is that of a refusal, or 0. Row 1 is that of the frame which the case began in, once it has called.
-#[derive(Drop)]
+#[derive(Clone, Copy)]
 pub(crate) struct Came {
     pub seen: Seen,
     pub r3: U256,

@@ -10,7 +10,7 @@ use lib.Dec.{eqb, ltb}
 use lib.ListN.{length, drop, drop_of_length-le}
 use lib.Seq.{drop-cons}
 use mir.Val.{bool_byte}
-use borrow.Author.Tests.{ltb-true, lt-ltb, le-leb, lt-leb}
+use borrow.Author.Tests.{ltb-true, lt-ltb}
 use Rattle.signed.specs.Signed.{fits_signed}
 use Rattle.signed.proofs.SignedLaws.{signed_of_word, word_of_signed}
 use Rattle.frame.specs.declared.Frame.{Frame}
@@ -19,7 +19,7 @@ use Rattle.frame.specs.declared.U128.{U128}
 use Rattle.frame.specs.declared.PubdataCost.{PubdataCost}
 use Rattle.frame.specs.Row.{row_width, row_of, word, address_from, u128_of, pubdata_of, frame_of, good_words, good_row}
 use Rattle.frame.specs.Bounds.{Bounds}
-use Rattle.frame.proofs.Bools.{and_parts}
+use Rattle.std.proofs.lemmas.Bool.{and_parts}
 
 -- the frame that `read` puts together
 pub read : (row : List ℕ) (this sender code : Address) (context : U128) (spent : PubdataCost)
@@ -69,12 +69,6 @@ bounds w row h e =
       static = ltb-true (word row 24) 2 q6.1;
       local = ltb-true (word row 25) 2 q7.1;
     }
-
-pub good_short : (w : ℕ) (row : List ℕ) → length row < row_width → false ≡ good_row w row
-good_short w row h = rw (lt-leb row_width (length row) h)
-
-pub good_whole : (w : ℕ) (row : List ℕ) (b : Bool) → row_width ≤ length row → b ≡ good_words w row → b ≡ good_row w row
-good_whole w row b h e = rw (le-leb row_width (length row) h, e)
 
 -- ---- there and back
 bit_back : (b : Bool) → eqb (bool_byte b) 1 ≡ b

@@ -3,21 +3,20 @@ use Prim.Native.Nat.{ℕ, zero, suc, ◌+◌, ◌-◌, ◌*◌, ◌/◌, ◌≤�
 use mathlib.Core.Bool.{Bool, true, false, cond}
 use mathlib.Core.Path.{◌≡◌, refl, sym, ap, ◌∙◌}
 use mathlib.Core.Logic.{◌↔◌}
-use mathlib.Core.List.{List, [], ◌∷◌, ◌++◌, append-nil}
+use mathlib.Core.List.{List, [], ◌++◌, append-nil}
 use native.Mathlib.Omega.{arith}
 use native.Mathlib.Nat.{add-sub_cancel_left, zero-add, suc-add}
 use lib.Dec.{ltb, leb}
-use native.Mathlib.Numerals.{add-one}
 use lib.ListN.{length, take, drop, get_or, length-drop, length-append, get_or-eq_default}
-use lib.Seq.{take_all, take-nil, drop-length, drop-drop, drop_at, take-take, take-append-le, drop-append-add, length-take-le, ext_get_or, get_or-take, get_or-drop}
+use lib.Seq.{take_all, drop-length, drop-drop, drop_at, take-take, take-append-le, drop-append-add, length-take-le, ext_get_or, get_or-take, get_or-drop}
 use borrow.Author.Tests.{lt-ltb, le-ltb, le-leb, ltb-true, ltb-false}
+use Rattle.std.proofs.lemmas.List.{drop-take}
 use Rattle.frame.specs.declared.Frame.{Frame}
 use Rattle.frame.specs.declared.SaveAnswer.{SaveAnswer}
 use Rattle.frame.specs.declared.ReadAnswer.{ReadAnswer}
 use Rattle.frame.specs.Row.{row_width, row_of, word, frame_of, good_words}
-use Rattle.frame.specs.Bounds.{Bounds}
 use Rattle.frame.specs.Store.{whole_rows, row_at, store_with, save_of, saved_store, save_number, save_refusal, read_of, read_number, read_refusal, saved_ergs}
-use Rattle.frame.proofs.RowLaws.{Ranges, bounds, good_of_frame, frame_of_row}
+use Rattle.frame.proofs.RowLaws.{Ranges, good_of_frame, frame_of_row}
 
 -- a row that the store has lies in it whole
 fits : (n i : ℕ) → i < n / row_width → (i + 1) * row_width ≤ n
@@ -32,12 +31,7 @@ row_size store i h =
 
 -- the last row of the first k + 1 rows
 row_of_front : (store : List ℕ) (k : ℕ) → drop (k * row_width) (take ((k + 1) * row_width) store) ≡ row_at store k
-row_of_front store k = ap (λ (n : ℕ). drop (k * row_width) (take n store)) (sym (next_row k)) ∙ drop_of_take (k * row_width) row_width store
-  where
-    drop_of_take : (m n : ℕ) (l : List ℕ) → drop m (take (m + n) l) ≡ take n (drop m l)
-    drop_of_take zero n l = rw (zero-add n)
-    drop_of_take (suc m) n [] = rw (take-nil {A = ℕ} (suc m + n), take-nil {A = ℕ} n)
-    drop_of_take (suc m) n (x ∷ l) = rw (suc-add m n) (drop_of_take m n l)
+row_of_front store k = ap (λ (n : ℕ). drop (k * row_width) (take n store)) (sym (next_row k)) ∙ drop-take (k * row_width) row_width store
 
 -- ---- reading
 module _ (w : ℕ) (store : List ℕ) (i : ℕ) where
@@ -59,10 +53,6 @@ module _ (w : ℕ) (store : List ℕ) (i : ℕ) where
   module _ (h : i < whole_rows store) (b : Bool) (e : b ≡ good_words w lent) where
     sized : leb row_width (length (row_at store i)) ≡ true
     sized = le-leb row_width (length (row_at store i)) (omega (arith, row_size store i h))
-
-    pub read_bounds : b ≡ true → Bounds w lent
-    read_bounds t =
-        bounds w lent (omega (arith, ap length lent_row ∙ row_size store i h)) (sym e ∙ t)
 
     pub read_good : b ≡ true → (f : Frame) → f ≡ frame_of lent → Read (ReadAnswer.Good f)
     unfolding read_of
@@ -185,10 +175,6 @@ ergs_at store i = sym (get_or-take row_width (drop (i * row_width) store) 20 0 (
 -- of a row that the store has not
 pub no_ergs : (store : List ℕ) (i : ℕ) → length store ≤ i * row_width + 20 → 0 ≡ (frame_of (row_at store i)).ergs_remaining
 no_ergs store i h = sym (get_or-eq_default store 0 h) ∙ ergs_at store i
-
--- one row more
-pub saved_ergs_more : (store : List ℕ) (i sum ergs : ℕ) → sum ≡ saved_ergs i store → ergs ≡ (frame_of (row_at store i)).ergs_remaining → sum + ergs ≡ saved_ergs (i + 1) store
-saved_ergs_more store i sum ergs es ee = rw (add-one i, ← ee, ← es) (omega arith)
 
 -- rows past the store's end add nothing
 saved_ergs_past : (store : List ℕ) (i k : ℕ) → length store ≤ i * row_width → saved_ergs (k + i) store ≡ saved_ergs i store

@@ -1,4 +1,6 @@
 // The call stack's frames, and the frame store: a lent slice of words, one row for each saved frame.
+#![tactic(auto)]
+
 ghost use Rattle.std.specs.Prelude.{◌≡◌, ◌*◌, ◌≤◌};
 ghost use Rattle.frame.specs.Kernel.{kernel_mode};
 ghost use Rattle.frame.specs.Row.{good_row, frame_of};
@@ -13,7 +15,7 @@ pub const ROW_WIDTH: usize = 34;
 const ERGS: usize = 20;
 
 // 20 bytes in five words, the first byte highest.
-#[derive(Drop)]
+#[derive(Clone, Copy)]
 pub struct Address {
     pub a0: u32,
     pub a1: u32,
@@ -23,17 +25,17 @@ pub struct Address {
 }
 
 // The Rust's u128.
-#[derive(Drop)]
+#[derive(Clone, Copy)]
 pub struct U128 {
     pub low: u64,
     pub high: u64,
 }
 
-#[derive(Drop)]
+#[derive(Clone, Copy)]
 pub struct PubdataCost(pub i32);
 
 // The Rust's `CallStackEntry`. The order leaves no hole of 3, 5, 6 or 7 bytes: such a hole slows each copy down.
-#[derive(Drop)]
+#[derive(Clone, Copy)]
 pub struct Frame {
     pub context_u128_value: U128,
     pub this_address: Address,
@@ -92,13 +94,13 @@ impl Frame {
     }
 }
 
-#[derive(Drop)]
+#[derive(Clone, Copy)]
 pub enum SaveAnswer {
     Saved,
     Missing,
 }
 
-#[derive(Drop)]
+#[derive(Clone, Copy)]
 pub enum ReadAnswer {
     Good(Frame),
     Missing,

@@ -1,4 +1,6 @@
 // The nearbook listing: from the bytes of an input to the bytes printed.
+#![tactic(auto)]
+
 ghost use Rattle.std.specs.Prelude.{◌≡◌, true, ◌+◌, ◌≤◌, ◌<◌, length, take, drop};
 ghost use Rattle.text.specs.Bytes.{Wrote};
 ghost use Rattle.text.specs.Parts.{lines_of};
@@ -16,7 +18,7 @@ pub const TOO_LONG: usize = 65537;
 pub const ROOM: usize = 1310848;
 
 // How far a listing has come: where the next line of the input begins, the position on the buffer, the number of the next cycle, and whether it goes on.
-#[derive(Drop)]
+#[derive(Clone, Copy)]
 pub struct Progress {
     pub state: State,
     pub next: usize,
@@ -26,6 +28,7 @@ pub struct Progress {
 }
 
 // Reads and runs the next line, and writes what it prints.
+#[tactic(auto, using(crate::proofs::ListingLaws::lines))]
 fn step(
     p: Progress,
     input: &[u8],
@@ -118,6 +121,7 @@ fn after_line(input: &[u8], end: usize) -> usize
 }
 
 // The third line, from a position of the input on, and those after it.
+#[tactic(auto, using(crate::proofs::ListingLaws::lines))]
 fn from_third(
     input: &[u8],
     at: usize,
@@ -137,6 +141,7 @@ fn from_third(
 }
 
 // The second line, from a position of the input on, and those after it.
+#[tactic(auto, using(crate::proofs::ListingLaws::lines), unfolding(crate::specs::Listing::second_on))]
 fn from_second(input: &[u8], at: usize, buffer: &mut [u8], position: usize) -> usize
     requires { (length input.now ≤ 65536) × (at ≤ length input.now) × (position ≤ length buffer.old) }
     ensures { Wrote buffer.old position (second_on (lines_of (drop at input.now))) buffer.new result }
@@ -150,6 +155,7 @@ fn from_second(input: &[u8], at: usize, buffer: &mut [u8], position: usize) -> u
 }
 
 // All lines.
+#[tactic(auto, using(crate::proofs::ListingLaws::lines))]
 fn from_first(input: &[u8], buffer: &mut [u8], position: usize) -> usize
     requires { (length input.now ≤ 65536) × (position ≤ length buffer.old) }
     ensures { Wrote buffer.old position (first_on (lines_of input.now)) buffer.new result }

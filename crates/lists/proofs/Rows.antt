@@ -1,17 +1,13 @@
 -- Rows of two stores whose first rows are the same. Assumes nothing.
 use Prim.Native.Nat.{ℕ, zero, suc, ◌+◌, ◌*◌, ◌≤◌, ◌<◌}
 use mathlib.Core.Path.{◌≡◌, refl, sym, ap, ◌∙◌}
-use mathlib.Core.List.{List, [], ◌∷◌}
+use mathlib.Core.List.{List}
 use native.Mathlib.Omega.{arith}
-use native.Mathlib.Nat.{zero-add, suc-add, mul-le-mul_right}
+use native.Mathlib.Nat.{mul-le-mul_right}
 use lib.ListN.{take, drop}
-use lib.Seq.{take-nil, take-take}
+use lib.Seq.{take-take}
+use Rattle.std.proofs.lemmas.List.{drop-take}
 use Rattle.lists.specs.Machine.{Machine, row_at, first_rows}
-
-drop_of_take : (m n : ℕ) (l : List ℕ) → drop m (take (m + n) l) ≡ take n (drop m l)
-drop_of_take zero n l = rw (zero-add n)
-drop_of_take (suc m) n [] = rw (take-nil {A = ℕ} (suc m + n), take-nil {A = ℕ} n)
-drop_of_take (suc m) n (x ∷ l) = rw (suc-add m n) (drop_of_take m n l)
 
 module _ (M : Machine) where
   open M use {row_width, row_ergs}
@@ -28,9 +24,9 @@ module _ (M : Machine) where
     pub row_same : (i : ℕ) → i < n → row_at M store i ≡ row_at M other i
     unfolding row_at
     row_same i h =
-        sym (drop_of_take (i * row_width) row_width store)
+        sym (drop-take (i * row_width) row_width store)
         ∙ ap (drop (i * row_width)) (words_same (i * row_width + row_width) (omega (arith, mul-le-mul_right row_width h)))
-        ∙ drop_of_take (i * row_width) row_width other
+        ∙ drop-take (i * row_width) row_width other
 
   -- the ergs in k rows from row i on
   unfoldable pub saved_ergs : List ℕ → ℕ → ℕ → ℕ

@@ -1,10 +1,18 @@
 // Reads a list from standard input, and prints its listing. Document 01: "Program nearbook reads standard input, at most 65,536 bytes".
-use libc::{STDIN_FILENO, STDOUT_FILENO};
+#![tactic(auto)]
 
-fn main() {
-    let mut input = [0u8; listing::TOO_LONG];
-    let size = io::read_full(STDIN_FILENO, &mut input);
-    let mut buffer = [0u8; listing::ROOM];
-    let printed = listing::listing(&input[..size], &mut buffer);
-    io::write_all(STDOUT_FILENO, &buffer[..printed]);
+use listing::{ROOM, TOO_LONG};
+use std::io::{self, Read};
+
+fn main(rt: HostRuntime) -> io::Result<()> {
+    let mut buffer = vec![in rt.alloc(); 0u8; ROOM]?;
+    // There is room before the first read, so only a read can fail then, and that counts as the end of the input.
+    let mut input = Vec::with_capacity(rt.alloc(), TOO_LONG)?;
+    let _ = rt.stdin().take(TOO_LONG as u64).read_to_end(&mut input);
+    let Some(room) = buffer.as_mut_array::<ROOM>() else {
+        unreachable!()
+    };
+    let printed = listing::listing(&input, room);
+    let _ = rt.write_all(&room[..printed]);
+    Ok(())
 }

@@ -1,4 +1,6 @@
 // Registers by number: 0 is the empty value. Constant indices: an index that is not known costs the speed of each copy of the state.
+#![tactic(auto)]
+
 ghost use Rattle.std.specs.Prelude.{◌≡◌, false, cond};
 ghost use Rattle.registers.specs.Registers.{empty_word, register_of, pointer_of, update_of};
 

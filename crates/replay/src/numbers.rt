@@ -6,7 +6,7 @@ pub(crate) const MOST: usize = 736;
 // What stands for a line that is no list of numbers, or has too many.
 const UNREAD: usize = 737;
 
-#[derive(Drop)]
+#[derive(Clone, Copy)]
 enum Number {
     Value(u64),
     Bad,

@@ -1,13 +1,13 @@
 // From the bytes of standard input, in parts of any size, to a result for each line.
 use crate::{case, layout, numbers, result};
 use frame::{Frame, ReadAnswer};
-use libc::{STDIN_FILENO, STDOUT_FILENO};
+use std::io::Read;
 
 // The bytes of the word that a case for execute alone begins with, and its space.
 const ALONE: usize = 8;
 
 // How much of the buffer is the start of a line, whether the line that is read is skipped, and whether the input has ended.
-#[derive(Drop)]
+#[derive(Clone, Copy)]
 struct Held {
     have: usize,
     is_skipping: bool,
@@ -75,26 +75,27 @@ fn put_line(out: &mut [u8], line: &[u8]) -> usize {
     put_case(out, &numbers, &mut store[..size], alone)
 }
 
-fn run_line(out: &mut [u8], line: &[u8]) {
+// Nothing is said where the result cannot be written.
+fn run_line(rt: &impl Print, out: &mut [u8], line: &[u8]) {
     let size = put_line(out, line);
     let end = text::put_byte(out, size, 10);
-    io::write_all(STDOUT_FILENO, &out[..end]);
+    let _ = rt.write_all(&out[..end]);
 }
 
-fn run_unless(out: &mut [u8], line: &[u8], is_skipped: bool) {
+fn run_unless(rt: &impl Print, out: &mut [u8], line: &[u8], is_skipped: bool) {
     if !is_skipped {
-        run_line(out, line);
+        run_line(rt, out, line);
     }
 }
 
 // Runs each line that has its end; the answer is where what is left begins.
-fn run_lines(out: &mut [u8], bytes: &[u8], is_skipping: bool) -> usize {
+fn run_lines(rt: &impl Print, out: &mut [u8], bytes: &[u8], is_skipping: bool) -> usize {
     let mut skips = is_skipping;
     let mut at = 0;
     let mut i = 0;
     while i < bytes.len() {
         if bytes[i] == 10 {
-            run_unless(out, &bytes[at..i], skips);
+            run_unless(rt, out, &bytes[at..i], skips);
             skips = false;
             at = i + 1;
         }
@@ -121,23 +122,28 @@ fn move_front(buffer: &mut [u8], from: usize, end: usize) -> usize {
     to
 }
 
-// Reads once, and runs the lines that are whole then.
-fn turn(buffer: &mut [u8], out: &mut [u8], held: Held) -> Held {
+// Reads once, and runs the lines that are whole then. A read that fails counts as the end of the input.
+fn turn(
+    rt: &impl Print,
+    input: &mut impl Read,
+    buffer: &mut [u8],
+    out: &mut [u8],
+    held: Held,
+) -> Held {
     let have = held.have;
     let is_skipping = held.is_skipping;
     if buffer.len() <= have {
-        io::write_all(STDOUT_FILENO, b"unread\n");
+        let _ = rt.write_all(b"unread\n");
         return Held {
             have: 0,
             is_skipping: true,
             is_over: false,
         };
     }
-    let got = libc::read(STDIN_FILENO, &mut buffer[have..]);
-    let n = io::count(got, &buffer[have..]);
+    let n = input.read(&mut buffer[have..]).unwrap_or(0);
     if n == 0 {
         if 0 < have {
-            run_line(out, &buffer[..have]);
+            run_line(rt, out, &buffer[..have]);
         }
         return Held {
             have: 0,
@@ -146,7 +152,7 @@ fn turn(buffer: &mut [u8], out: &mut [u8], held: Held) -> Held {
         };
     }
     let end = have + n;
-    let left = run_lines(out, &buffer[..end], is_skipping);
+    let left = run_lines(rt, out, &buffer[..end], is_skipping);
     // no line end: all of it is skipped
     if is_skipping & (left == 0) {
         return Held {
@@ -162,16 +168,17 @@ fn turn(buffer: &mut [u8], out: &mut [u8], held: Held) -> Held {
     }
 }
 
-// Nothing says that the input ends, so the loop counts its turns down, from a number that no run uses up.
-pub(crate) fn serve(buffer: &mut [u8], out: &mut [u8]) {
-    let mut turns: u64 = 0xffff_ffff_ffff_ffff;
+// Nothing says that the input ends, so the loop has a last turn, which no run comes to.
+pub(crate) fn serve(rt: &impl Print, input: &mut impl Read, buffer: &mut [u8], out: &mut [u8]) {
     let mut held = Held {
         have: 0,
         is_skipping: false,
         is_over: false,
     };
-    while 0 < turns && !held.is_over {
-        held = turn(buffer, out, held);
-        turns -= 1;
+    for _ in 0..u64::MAX {
+        if held.is_over {
+            break;
+        }
+        held = turn(rt, input, buffer, out, held);
     }
 }

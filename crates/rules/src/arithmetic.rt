@@ -15,6 +15,7 @@ pub fn result(operation: u8, a: U256, b: U256) -> Overflowing
     }
 }
 
+#[tactic(auto, unfolding(crate::specs::Arithmetic::flags_after))]
 pub fn flags_after(set: bool, old: Flags, res: Overflowing) -> Flags
     ensures { result ≡ flags_after set old res }
 {

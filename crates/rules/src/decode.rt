@@ -26,6 +26,7 @@ pub fn less(a: u32, b: u32) -> u32
     if b <= a { a - b } else { 0 }
 }
 
+#[tactic(auto, unfolding(crate::specs::Charge::error_flags))]
 pub fn error_flags(f: Frame, depth: u32, limit: u32, plain: Record) -> ErrorFlags
     ensures { result ≡ error_flags f depth limit plain }
 {

@@ -17,6 +17,7 @@ pub fn sub_pc(pc: u16) -> u16
 }
 
 // Sub pc 0 is the highest word.
+#[tactic(auto, unfolding(crate::specs::Code::code_bits))]
 pub fn code_bits(word: U256, sub_pc: u16) -> u64
     ensures { result ≡ code_bits word sub_pc }
 {

@@ -1,4 +1,6 @@
 // What the stages do, without the machine state.
+#![tactic(auto)]
+
 pub mod arithmetic;
 pub mod decode;
 pub mod fetch;
@@ -14,7 +16,7 @@ pub mod wrapping;
 use u256::U256;
 
 // Made by the caller, read by every stage.
-#[derive(Drop)]
+#[derive(Clone, Copy)]
 pub struct Settings {
     pub depth_limit: u32,
     pub near_call_multiplier: u32,
@@ -22,7 +24,7 @@ pub struct Settings {
 }
 
 // An instruction. Kinds and registers are numbers, so that a record can be refused; the order leaves no hole.
-#[derive(Drop)]
+#[derive(Clone, Copy)]
 pub struct Record {
     pub operation: u8,
     pub return_kind: u8,
@@ -46,14 +48,14 @@ pub struct Record {
 }
 
 // The three that come together: the instruction as it stands, masked into panic, and masked into nop.
-#[derive(Drop)]
+#[derive(Clone, Copy)]
 pub struct Records {
     pub plain: Record,
     pub panic: Record,
     pub nop: Record,
 }
 
-#[derive(Drop)]
+#[derive(Clone, Copy)]
 pub struct Flags {
     pub overflow_or_less_than_flag: bool,
     pub equality_flag: bool,
@@ -61,7 +63,7 @@ pub struct Flags {
 }
 
 // The Rust's five, each under its name there.
-#[derive(Drop)]
+#[derive(Clone, Copy)]
 pub struct ErrorFlags {
     pub invalid_opcode: bool,
     pub not_enough_ergs: bool,
@@ -71,7 +73,7 @@ pub struct ErrorFlags {
 }
 
 // No location, or a memory kind (1 stack, 2 code), a page and an index. The narrow field first: a hole before it slows each copy down.
-#[derive(Drop)]
+#[derive(Clone, Copy)]
 pub enum Location {
     None,
     At {
@@ -81,28 +83,28 @@ pub enum Location {
     },
 }
 
-#[derive(Drop)]
+#[derive(Clone, Copy)]
 pub struct PrimitiveValue {
     pub value: U256,
     pub is_pointer: bool,
 }
 
 // The operands of an instruction, after the swap.
-#[derive(Drop)]
+#[derive(Clone, Copy)]
 pub struct Sources {
     pub src0: PrimitiveValue,
     pub src1: PrimitiveValue,
 }
 
 // A location, and sp after it.
-#[derive(Drop)]
+#[derive(Clone, Copy)]
 pub struct Located {
     pub location: Location,
     pub sp: u16,
 }
 
 // Where the source is read and the destination is to be written, and sp after both.
-#[derive(Drop)]
+#[derive(Clone, Copy)]
 pub struct Places {
     pub source: Location,
     pub destination: Location,

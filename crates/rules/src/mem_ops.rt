@@ -41,6 +41,7 @@ fn at(memory_type: u8, page: u32, index: u16) -> Location
 }
 
 // A source: push/pop is a pop.
+#[tactic(auto, unfolding(crate::specs::Address::source_at))]
 pub fn source_at(kind: u8, stack_page: u32, code_page: u32, sp: u16, vaddr: u16) -> Located
     ensures { result ≡ source_at 16 kind stack_page code_page sp vaddr }
 {
@@ -70,6 +71,7 @@ pub fn source_at(kind: u8, stack_page: u32, code_page: u32, sp: u16, vaddr: u16)
 }
 
 // A destination: push/pop is a push. Kinds 1 and 4 are refused before.
+#[tactic(auto, unfolding(crate::specs::Address::destination_at))]
 pub fn destination_at(kind: u8, stack_page: u32, sp: u16, vaddr: u16) -> Located
     ensures { result ≡ destination_at 16 kind stack_page sp vaddr }
 {
@@ -113,6 +115,7 @@ fn memory_vaddr(kind: u8, registers: [U256; 15], n: u8, imm: u16) -> u16
 }
 
 // Source first, then destination on the changed sp.
+#[tactic(auto, unfolding(crate::specs::Address::places_of, crate::specs::Address::source_at, crate::specs::Address::destination_at))]
 pub fn places(r: Record, registers: [U256; 15], stack_page: u32, code_page: u32, sp: u16) -> Places
     ensures { result ≡ places_of 16 r registers stack_page code_page sp }
 {

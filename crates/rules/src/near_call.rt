@@ -23,6 +23,7 @@ pub fn passed_ergs(wanted: u32, held: u32) -> u32
     if all { held } else { wanted }
 }
 
+#[tactic(auto, unfolding(crate::specs::NearCall::caller_of))]
 pub fn caller_frame(f: Frame, ergs: u32, pc: u16) -> Frame
     ensures { result ≡ caller_of f ergs pc }
 {
@@ -32,6 +33,7 @@ pub fn caller_frame(f: Frame, ergs: u32, pc: u16) -> Frame
     caller
 }
 
+#[tactic(auto, unfolding(crate::specs::NearCall::opened_of))]
 pub fn opened_frame(f: Frame, ergs: u32, pc: u16, handler: u16) -> Frame
     ensures { result ≡ opened_of f ergs pc handler }
 {

@@ -44,6 +44,7 @@ pub fn is_nop(r: Record) -> bool
 // Refusal 3 of decode. The last three say whether execution has ended, an exception is pending, and decode sets some flag. What a panic and a nop record are has
 // their operation, and a panic's return kind, in its list. Few tests at a time: after one test of all the compiler would not know what holds of each field, and
 // operands would test the kept record again.
+#[tactic(auto, unfolding(crate::specs::Record::bad_records))]
 pub fn bad_records(r: Records, ended: bool, pending: bool, flagged: bool) -> bool
     ensures { result ≡ bad_records r ended pending flagged }
 {

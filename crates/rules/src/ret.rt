@@ -133,6 +133,7 @@ pub fn close_number(spent: Checked, reverted: Checked, caller: Frame, closed: Fr
     first_of(outside, bad, past, is_shrunk(caller, closed))
 }
 
+#[tactic(auto, unfolding(crate::specs::Ret::resumed_with))]
 fn resumed(caller: Frame, closed: Frame, pubdata: PubdataCost, ergs: u32, pc: u16) -> Frame
     ensures { result ≡ resumed_with caller closed pubdata ergs pc }
 {

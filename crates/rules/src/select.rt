@@ -37,6 +37,7 @@ fn first_source(r: Record, register: PrimitiveValue, word: U256, pointer: bool) 
     }
 }
 
+#[tactic(auto, unfolding(crate::specs::Sources::sources_of))]
 pub fn sources(
     r: Record,
     words: [U256; 15],

@@ -1,4 +1,6 @@
 // One line's cycle, and the row that it prints.
+#![tactic(auto)]
+
 ghost use Rattle.std.specs.Prelude.{◌≡◌, ◌+◌, get_or};
 ghost use Rattle.frame.specs.Store.{saved_ergs};
 ghost use Rattle.runs.specs.Run.{op_record, input_of, requested_state, ran_of, store_after, entries_after, printed_row};
@@ -11,7 +13,7 @@ use table::{Op, Row};
 use tally::EnterAnswer;
 
 // What a line's cycle gives; the number is that of a refusal, or 0.
-#[derive(Drop)]
+#[derive(Clone, Copy)]
 pub struct Ran {
     pub state: State,
     pub number: u32,
@@ -30,6 +32,7 @@ fn record_of(op: Op, price: u32) -> Record
     }
 }
 
+#[tactic(auto, unfolding(crate::specs::Run::input_of))]
 pub fn input_of(limit: u32, op: Op, price: u32) -> Input
     ensures { result ≡ input_of limit op price }
 {
@@ -46,6 +49,7 @@ pub fn input_of(limit: u32, op: Op, price: u32) -> Input
 }
 
 // The request of a line in register 1.
+#[tactic(auto, unfolding(crate::specs::Run::requested_state))]
 pub fn requested(mut state: State, want: u32) -> State
     ensures { result ≡ requested_state state want }
 {
@@ -67,6 +71,7 @@ fn enter_number(tally: &mut [u64], limit: u32, before: u32, after: u32, charge: 
 }
 
 // The cycle of a line, and its entry in the tally. A stage's refusal leaves the state that the stage was given, in mid-cycle; the tally's leaves the finished cycle.
+#[tactic(auto, unfolding(crate::specs::Run::ran_of, crate::specs::Run::store_after, crate::specs::Run::entries_after))]
 pub fn run_line(
     state: State,
     limit: u32,
@@ -118,6 +123,7 @@ fn total_of(held: u32, store: &[u32], depth: u32) -> u64
     held as u64 + saved
 }
 
+#[tactic(auto, unfolding(crate::specs::Run::printed_row))]
 pub fn row_of(cycle: u64, op: Op, charge: u32, state: State, store: &[u32], tally: &[u64]) -> Row
     ensures { result ≡ printed_row cycle op charge (record { state = state; store = store.now; tally = tally.now }) }
 {

@@ -1,3 +1,2 @@
-pub mod Shift
 pub mod SignedLaws
 pub mod Examples

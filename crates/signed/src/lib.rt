@@ -1,13 +1,16 @@
 // Sums and differences of 32-bit signed numbers that say where they leave 32 bits, and two's complement words.
+#![tactic(auto)]
+
 ghost use Rattle.std.specs.Prelude.{◌≡◌};
 ghost use Rattle.signed.specs.Signed.{sum_of, difference_of, word_of, signed_of};
 
-#[derive(Drop)]
+#[derive(Clone, Copy)]
 pub enum Checked {
     Fits(i32),
     Outside,
 }
 
+#[tactic(auto, unfolding(crate::specs::Signed::checked_of))]
 pub fn checked_add(a: i32, b: i32) -> Checked
     ensures { result ≡ sum_of a b }
 {
@@ -26,6 +29,7 @@ pub fn checked_add(a: i32, b: i32) -> Checked
     }
 }
 
+#[tactic(auto, unfolding(crate::specs::Signed::checked_of))]
 pub fn checked_sub(a: i32, b: i32) -> Checked
     ensures { result ≡ difference_of a b }
 {
@@ -45,6 +49,7 @@ pub fn checked_sub(a: i32, b: i32) -> Checked
 }
 
 // The two's complement word.
+#[tactic(auto, unfolding(crate::specs::Signed::word_of))]
 pub fn to_word(x: i32) -> u32
     ensures { result ≡ word_of 32 x }
 {
@@ -56,6 +61,7 @@ pub fn to_word(x: i32) -> u32
 }
 
 // The number whose two's complement word this is.
+#[tactic(auto, unfolding(crate::specs::Signed::signed_of))]
 pub fn from_word(w: u32) -> i32
     ensures { result ≡ signed_of 32 w }
 {

@@ -9,10 +9,6 @@ use Rattle.cycle.specs.declared.Fetched.{Fetched}
 use Rattle.cycle.specs.declared.Decoded.{Decoded}
 use Rattle.cycle.specs.declared.Addressed.{Addressed}
 use Rattle.cycle.specs.declared.Executed.{Executed}
-use Rattle.cycle.specs.declared.FetchAnswer.{FetchAnswer}
-use Rattle.cycle.specs.declared.DecodeAnswer.{DecodeAnswer}
-use Rattle.cycle.specs.declared.OperandsAnswer.{OperandsAnswer}
-use Rattle.cycle.specs.declared.ExecuteAnswer.{ExecuteAnswer}
 use Rattle.cycle.specs.Fetch.{query_of, fetch_of}
 use Rattle.cycle.specs.Decode.{decode_of}
 use Rattle.cycle.specs.Operands.{operands_of}
@@ -21,12 +17,7 @@ use Rattle.stepper.specs.declared.Input.{Input}
 use Rattle.stepper.specs.declared.Cycled.{Cycled}
 use Rattle.stepper.specs.declared.CycleAnswer.{CycleAnswer}
 use Rattle.cycle.specs.Answers.{fetch_number, decode_number, operands_number, execute_number}
-use Rattle.stepper.specs.Cycle.{refused_at, cycle_done, cycle_of, cycle_store, decode_charge, cycle_charge}
-
--- the charge of a cycle is that of its decode
-pub charge : {a : CycleAnswer} {read : Location} {fetch : FetchAnswer} {decode : DecodeAnswer} {operands : OperandsAnswer} {execute : ExecuteAnswer}
-    → a ≡ CycleAnswer.Done read fetch decode operands execute → {r : ℕ} → r ≡ decode_charge decode → r ≡ cycle_charge a
-charge e er = rw (e, er)
+use Rattle.stepper.specs.Cycle.{refused_at, cycle_done, cycle_of, cycle_store}
 
 -- a cycle gave r, and left the store so
 abbrev pub Gives : Input → State → List ℕ → Cycled → List ℕ → Type 0

@@ -1,5 +1,7 @@
 // A whole cycle: the one place that calls the four stages, for all that run a list. Each stage is called once here, so that the compiler inlines all
 // four in the caller's loop.
+#![tactic(auto)]
+
 ghost use Rattle.std.specs.Prelude.{◌≡◌};
 ghost use Rattle.cycle.specs.Answers.{fetch_number, decode_number, operands_number, execute_number};
 ghost use Rattle.stepper.specs.Cycle.{cycle_of, cycle_store, cycle_number, decode_charge, cycle_charge};
@@ -12,7 +14,7 @@ pub use start::{far_frame, instruction, records_of, settings_of, start_state, wo
 use u256::U256;
 
 // What a cycle is given: the code word that fetch is handed, and the source word of execute with its pointer bit.
-#[derive(Drop)]
+#[derive(Clone, Copy)]
 pub struct Input {
     pub code: U256,
     pub source: U256,
@@ -22,7 +24,7 @@ pub struct Input {
 }
 
 // The code read that was wanted and the four answers, or a refusal and its stage (0 fetch, 1 decode, 2 operands, 3 execute).
-#[derive(Drop)]
+#[derive(Clone, Copy)]
 pub enum CycleAnswer {
     Done {
         read: Location,
@@ -37,7 +39,7 @@ pub enum CycleAnswer {
     },
 }
 
-#[derive(Drop)]
+#[derive(Clone, Copy)]
 pub struct Cycled {
     pub state: State,
     pub answer: CycleAnswer,
@@ -87,6 +89,7 @@ pub fn execute_number(answer: ExecuteAnswer) -> u32
     }
 }
 
+#[tactic(auto, unfolding(crate::specs::Cycle::cycle_of, crate::specs::Cycle::cycle_done, crate::specs::Cycle::cycle_store))]
 pub fn cycle(state: State, input: Input, store: &mut [u32]) -> Cycled
     ensures { (result ≡ cycle_of input state store.old) × (store.new ≡ cycle_store input state store.old) }
 {
@@ -98,53 +101,37 @@ pub fn cycle(state: State, input: Input, store: &mut [u32]) -> Cycled
     let fetched = state.fetch(settings, store, code);
     let fetch = fetched.answer;
     let ready = fetched.state;
-    let n0 = fetch_number(fetch);
-    if n0 != 0 {
+    if let FetchAnswer::Refused(number) = fetch {
         return Cycled {
             state: ready,
-            answer: CycleAnswer::Refused {
-                number: n0,
-                stage: 0,
-            },
+            answer: CycleAnswer::Refused { number, stage: 0 },
         };
     }
     let decoded = ready.decode(settings, store, records);
     let decode = decoded.answer;
     let kept = decoded.state;
-    let n1 = decode_number(decode);
-    if n1 != 0 {
+    if let DecodeAnswer::Refused(number) = decode {
         return Cycled {
             state: kept,
-            answer: CycleAnswer::Refused {
-                number: n1,
-                stage: 1,
-            },
+            answer: CycleAnswer::Refused { number, stage: 1 },
         };
     }
     let addressed = kept.operands(settings, store);
     let operands = addressed.answer;
     let moved = addressed.state;
-    let n2 = operands_number(operands);
-    if n2 != 0 {
+    if let OperandsAnswer::Refused(number) = operands {
         return Cycled {
             state: moved,
-            answer: CycleAnswer::Refused {
-                number: n2,
-                stage: 2,
-            },
+            answer: CycleAnswer::Refused { number, stage: 2 },
         };
     }
     let executed = moved.execute(settings, store, source, input.pointer);
     let execute = executed.answer;
     let next = executed.state;
-    let n3 = execute_number(execute);
-    if n3 != 0 {
+    if let ExecuteAnswer::Refused(number) = execute {
         return Cycled {
             state: next,
-            answer: CycleAnswer::Refused {
-                number: n3,
-                stage: 3,
-            },
+            answer: CycleAnswer::Refused { number, stage: 3 },
         };
     }
     Cycled {

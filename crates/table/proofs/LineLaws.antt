@@ -1,15 +1,14 @@
 -- Lines read. Assumes nothing.
 use Prim.Native.Nat.{ℕ, ◌+◌, ◌-◌, ◌≤◌, ◌<◌}
-use mathlib.Core.Bool.{Bool, true, false, cond, ◌&&◌}
+use mathlib.Core.Bool.{Bool, true, false, cond}
 use mathlib.Core.Path.{◌≡◌, refl, sym, ap, ◌∙◌}
 use mathlib.Core.List.{List, [], ◌∷◌}
 use native.Mathlib.Nat.{sub-zero}
 use native.Mathlib.Decide.{dec_le}
 use native.Mathlib.Omega.{arith}
-use lib.Dec.{eqb, leb}
+use lib.Dec.{eqb}
 use lib.ListN.{length, take, drop, length-drop}
 use lib.Seq.{take_all}
-use Rattle.text.specs.Bytes.{same_bytes}
 use Rattle.text.specs.Parts.{onto, fields_of, part_end}
 use Rattle.text.specs.Number.{number_of}
 use Rattle.text.specs.declared.Number.{Number}
@@ -21,47 +20,6 @@ use Rattle.table.specs.declared.ReadOp.{ReadOp}
 use Rattle.table.specs.declared.Line.{Line}
 use Rattle.table.specs.declared.Start.{Start}
 use Rattle.table.specs.Line.{name_of, op_of, run_line, line_fields, line_of, start_with, start_of}
-
--- the names of the ops, tried one after the other
-module _ (field : List ℕ) {t1 : Bool} (e1 : t1 ≡ same_bytes field (name_of Op.Add)) where
-  pub op_add : t1 ≡ true → ReadOp.Known Op.Add ≡ op_of field
-  unfolding op_of
-  op_add h = rw (← e1, h)
-
-  module _ (n1 : t1 ≡ false) {t2 : Bool} (e2 : t2 ≡ same_bytes field (name_of Op.Call)) where
-    pub op_call : t2 ≡ true → ReadOp.Known Op.Call ≡ op_of field
-    unfolding op_of
-    op_call h = rw (← e1, n1, ← e2, h)
-
-    module _ (n2 : t2 ≡ false) {t3 : Bool} (e3 : t3 ≡ same_bytes field (name_of Op.Ok)) where
-      pub op_ok : t3 ≡ true → ReadOp.Known Op.Ok ≡ op_of field
-      unfolding op_of
-      op_ok h = rw (← e1, n1, ← e2, n2, ← e3, h)
-
-      module _ (n3 : t3 ≡ false) {t4 : Bool} (e4 : t4 ≡ same_bytes field (name_of Op.Revert)) where
-        pub op_revert : t4 ≡ true → ReadOp.Known Op.Revert ≡ op_of field
-        unfolding op_of
-        op_revert h = rw (← e1, n1, ← e2, n2, ← e3, n3, ← e4, h)
-
-        module _ (n4 : t4 ≡ false) {t5 : Bool} (e5 : t5 ≡ same_bytes field (name_of Op.Panic)) where
-          pub op_panic : t5 ≡ true → ReadOp.Known Op.Panic ≡ op_of field
-          unfolding op_of
-          op_panic h = rw (← e1, n1, ← e2, n2, ← e3, n3, ← e4, n4, ← e5, h)
-
-          pub op_bad : t5 ≡ false → ReadOp.Bad ≡ op_of field
-          unfolding op_of
-          op_bad h = rw (← e1, n1, ← e2, n2, ← e3, n3, ← e4, n4, ← e5, h)
-
-pub run_good : {read : ReadOp} {op : Op} {price want : Number} {p w : ℕ} → read ≡ ReadOp.Known op → price ≡ Number.Value p → want ≡ Number.Value w
-    → Line.Run op p w ≡ run_line read price want
-run_good e f g = rw (e, f, g)
-
-module _ {ergs limit : Number} {e l : ℕ} (f : ergs ≡ Number.Value e) (g : limit ≡ Number.Value l) where
-  pub start_good : (leb 1 l && leb l 16) ≡ true → Start.From e l ≡ start_with ergs limit
-  start_good h = rw (f, g, h)
-
-  pub start_range : (leb 1 l && leb l 16) ≡ false → Start.Bad ≡ start_with ergs limit
-  start_range h = rw (f, g, h)
 
 -- a line has a field at least
 fields_some : (bs : List ℕ) → (p : List ℕ) × (ps : List (List ℕ)) × (fields_of bs ≡ p ∷ ps)

@@ -20,16 +20,16 @@ pub wrote_row : (buffer : List ℕ) (at : ℕ) (row : Row) {buffer1 buffer2 buff
     → Wrote buffer4 r4 (field row.depth 32) buffer5 r5
     → Wrote buffer5 r5 (field row.held 32) buffer6 r6
     → Wrote buffer6 r6 (field row.total 32) buffer7 r7
-    → Wrote buffer7 r7 (field row.own_val 10) buffer8 r8
+    → Wrote buffer7 r7 (field row.own 10) buffer8 r8
     → Wrote buffer at (row_text row) buffer8 r8
 wrote_row buffer at row {buffer1} {buffer2} {buffer3} {buffer4} {buffer5} {buffer6} {buffer7} {buffer8} {r1} {r2} {r3} {r4} {r5} {r6} w1 w2 w3 w4 w5 w6 w7 w8 =
-    let t7 = field row.total 32 ++ field row.own_val 10 in
+    let t7 = field row.total 32 ++ field row.own 10 in
     let t6 = field row.held 32 ++ t7 in
     let t5 = field row.depth 32 ++ t6 in
     let t4 = field row.charge 32 ++ t5 in
     let t3 = (32 ∷ []) ++ t4 in
     let t2 = name_of row.op ++ t3 in
-    let v7 = join buffer6 r6 (field row.total 32) (field row.own_val 10) w7 w8 in
+    let v7 = join buffer6 r6 (field row.total 32) (field row.own 10) w7 w8 in
     let v6 = join buffer5 r5 (field row.held 32) t7 w6 v7 in
     let v5 = join buffer4 r4 (field row.depth 32) t6 w5 v6 in
     let v4 = join buffer3 r3 (field row.charge 32) t5 w4 v5 in

@@ -5,6 +5,7 @@ ghost use Rattle.table.specs.Line.{op_of, run_line, line_of, start_with, start_o
 use crate::{Line, Op, ReadOp, Start};
 use text::Number;
 
+#[tactic(auto, unfolding(crate::specs::Line::op_of))]
 fn op_of(field: &[u8]) -> ReadOp
     ensures { result ≡ op_of field.now }
 {

@@ -1,3 +1,2 @@
-pub mod TallyLaws
 pub mod EntriesLaws
 pub mod Examples

@@ -1,9 +1,11 @@
 // The spend tally: what each frame was charged while it was the current one, by depth.
+#![tactic(auto)]
+
 ghost use Rattle.std.specs.Prelude.{◌≡◌};
 ghost use Rattle.tally.specs.Tally.{bad_entry, enter_refusal, enter_number, enter_of, tally_after};
 ghost use Rattle.tally.specs.Entries.{PlaceHoldsSpend};
 
-#[derive(Drop)]
+#[derive(Clone, Copy)]
 pub enum EnterAnswer {
     Entered,
     Refused(u32),
@@ -25,6 +27,7 @@ fn bad_entry(size: usize, limit: u32, before: u32, after: u32) -> bool
 }
 
 // Enters the charge of a cycle that led from one depth to another.
+#[tactic(auto, unfolding(crate::specs::Tally::enter_of, crate::specs::Tally::tally_after))]
 pub fn enter(tally: &mut [u64], limit: u32, before: u32, after: u32, charge: u32) -> EnterAnswer
     ensures { (result ≡ enter_of tally.old limit before after charge)
         × (tally.new ≡ tally_after tally.old limit before after charge)

@@ -1,16 +1,17 @@
 -- Bytes compared, and written on a buffer. Assumes nothing.
-use Prim.Native.Nat.{ℕ, suc, ◌+◌, ◌≤◌, ◌<◌, min}
+use Prim.Native.Nat.{ℕ, suc, ◌+◌, ◌≤◌, min}
 use mathlib.Core.Bool.{Bool, true, false, ◌&&◌}
+use mathlib.Core.Logic.{◌⊎◌, inl, inr}
 use mathlib.Core.Path.{◌≡◌, refl, sym, ap, ◌∙◌}
 use mathlib.Core.List.{List, [], ◌∷◌, ◌++◌}
 use native.Mathlib.Nat.{add-zero, add-suc, suc-add, zero-add, min-eq_left}
-use native.Mathlib.Numerals.{add-one}
-use native.Mathlib.Decide.{dec_le, dec_lt}
+use native.Mathlib.Decide.{dec_le}
 use native.Mathlib.Omega.{arith}
-use lib.Dec.{eqb}
-use lib.ListN.{length, take, drop, get_or, set, length-set, length-append, drop_of_length-le}
-use lib.Seq.{sets, sets-eq, length-sets, set_out, drop-cons, take_at, drop_at}
-use borrow.Author.Tests.{eq-eqb, ne_eqb}
+use lib.Dec.{eqb, ltb}
+use lib.ListN.{length, take, drop, set, length-append, drop_of_length-le}
+use lib.Seq.{sets, sets-eq, length-sets, set_out, take_at, drop_at}
+use borrow.Author.Tests.{ltb-false}
+use Rattle.std.proofs.lemmas.Bool.{and_cases}
 use Rattle.text.specs.Bytes.{same_bytes, Wrote}
 
 -- bytes of other lengths are not the same
@@ -23,20 +24,6 @@ same_length (x ∷ xs) (y ∷ ys) h = other (eqb x y) (same_length xs ys (λ e. 
     other : (t : Bool) {s : Bool} → false ≡ s → false ≡ (t && s)
     other true e = e
     other false e = refl
-
--- after equal bytes the rest decides
-pub same_next : (a b : List ℕ) (i : ℕ) → i < length a → i < length b → get_or a i 0 ≡ get_or b i 0
-    → same_bytes (drop i a) (drop i b) ≡ same_bytes (drop (i + 1) a) (drop (i + 1) b)
-same_next a b i la lb e = rw (add-one, drop-cons a i 0 la, drop-cons b i 0 lb, eq-eqb (get_or a i 0) (get_or b i 0) e)
-
--- other bytes decide
-pub same_stop : (a b : List ℕ) (i : ℕ) → i < length a → i < length b → (get_or a i 0 ≡ get_or b i 0 → ⊥)
-    → false ≡ same_bytes (drop i a) (drop i b)
-same_stop a b i la lb n = rw (drop-cons a i 0 la, drop-cons b i 0 lb, ne_eqb (get_or a i 0) (get_or b i 0) n)
-
--- with no byte left they are the same
-pub same_end : (a b : List ℕ) (i : ℕ) → length a ≤ i → length b ≤ i → true ≡ same_bytes (drop i a) (drop i b)
-same_end a b i la lb = rw (drop_of_length-le a la, drop_of_length-le b lb)
 
 -- past its end the buffer is not written
 pub sets_out : (buffer : List ℕ) (at : ℕ) (bytes : List ℕ) → length buffer ≤ at → sets buffer at bytes ≡ buffer
@@ -107,20 +94,14 @@ putting_none given at bytes position e = record {
 }
 
 module _ (given : List ℕ) (at : ℕ) (bytes : List ℕ) (size : ℕ) (buffer : List ℕ) (position i : ℕ) (p : Putting given at bytes size buffer position i) where
-  pub putting_more : i < length bytes → position < size → Putting given at bytes size (set buffer position (get_or bytes i 0)) (position + 1) (i + 1)
-  putting_more h room = record {
-    given_size = p.given_size;
-    same = length-set buffer position (get_or bytes i 0) ∙ p.same;
-    upto = omega arith;
-    next = omega (arith, p.next);
-    rest = rw (add-one position, add-one i) (rw (drop-cons bytes i 0 h) at p.rest);
-  }
-
-  pub putting_done : (i < length bytes → size ≤ position) → Wrote given at bytes buffer position
-  putting_done stop = go (dec_lt i (length bytes))
+  -- the loop ends with the bytes, or at the buffer's end
+  pub putting_done : (ltb i (length bytes) && ltb position size) ≡ false → Wrote given at bytes buffer position
+  putting_done stop = go (and_cases (ltb i (length bytes)) (ltb position size) stop)
     where
-      go : Dec (i < length bytes) → Wrote given at bytes buffer position
-      go (yes h) = let full = stop h in (omega arith, sym (p.rest ∙ sets_out buffer position (drop i bytes) (omega arith)))
-      go (no h) =
-          let all : length bytes ≤ i = omega arith in
+      go : (ltb i (length bytes) ≡ false) ⊎ (ltb position size ≡ false) → Wrote given at bytes buffer position
+      go (inl e) =
+          let all : length bytes ≤ i = ltb-false i (length bytes) e in
           (omega arith, sym (rw (drop_of_length-le bytes all) at p.rest))
+      go (inr e) =
+          let full : size ≤ position = ltb-false position size e in
+          (omega arith, sym (p.rest ∙ sets_out buffer position (drop i bytes) (omega arith)))

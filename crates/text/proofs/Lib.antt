@@ -1,4 +1,3 @@
-pub mod Tests
 pub mod BytesLaws
 pub mod PartsLaws
 pub mod NumberLaws

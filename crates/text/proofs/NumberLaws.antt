@@ -1,8 +1,8 @@
 -- Numbers read and written as text. Assumes nothing.
 use Prim.Native.Nat.{ℕ, zero, suc, ◌+◌, ◌*◌, ◌-◌, ◌/◌, ◌%◌, ◌^◌, ◌≤◌, ◌<◌}
 use mathlib.Core.Bool.{Bool, true, false, cond, ◌&&◌, ◌||◌}
-use mathlib.Core.Path.{◌≡◌, refl, sym, ap, ◌∙◌}
-use mathlib.Core.List.{List, [], ◌∷◌, ◌++◌, append-nil}
+use mathlib.Core.Path.{◌≡◌, refl, ◌∙◌}
+use mathlib.Core.List.{List, [], ◌∷◌, ◌++◌}
 use native.Mathlib.Nat.{mod-eq_of_lt, pow-suc}
 use native.Mathlib.Numerals.{add-one}
 use native.Mathlib.Decide.{dec_lt}
@@ -10,10 +10,11 @@ use native.Mathlib.Omega.{arith}
 use lib.Dec.{ltb}
 use lib.ListN.{length, take, drop, get_or, set, length-append, length-set, length-drop, drop_of_length-le}
 use lib.Seq.{take_all, drop-cons, lt-length-set, get_or-set_same, drop-set-lt, append_snoc}
-use borrow.Author.Tests.{ltb-true, ltb-false, lt-ltb, le-ltb, le-leb, lt-leb}
+use borrow.Author.Tests.{lt-ltb, le-ltb, le-leb}
 use Rattle.text.specs.declared.Number.{Number}
 use Rattle.text.specs.Number.{is_digit, all_digits, is_some, decimal_after, number_of, digits_in, digits_of}
-use Rattle.text.proofs.Tests.{and_parts, or_parts}
+use Rattle.std.proofs.lemmas.Bool.{and_parts}
+use Rattle.std.proofs.lemmas.Bool.Decides.{nat_tests}
 
 -- digits that come after make a number no less
 decimal_le : (n : ℕ) (bs : List ℕ) → n ≤ decimal_after n bs
@@ -21,15 +22,7 @@ decimal_le n [] = omega arith
 decimal_le n (b ∷ bs) = omega (arith, decimal_le (n * 10 + (b - 48)) bs)
 
 no_digit : (b : ℕ) → (ltb b 48 || ltb 57 b) ≡ true → is_digit b ≡ false
-no_digit b e = go (dec_lt b 48)
-  where
-    go : Dec (b < 48) → is_digit b ≡ false
-    go (yes h) = rw (lt-leb 48 b h)
-    go (no h) = rw (le-leb 48 b (omega arith), lt-leb b 57 (ltb-true 57 b (rw (le-ltb b 48 (omega arith)) at e)))
-
--- what the code's test of a byte tells
-pub a_digit : (b : ℕ) → (ltb b 48 || ltb 57 b) ≡ false → (48 ≤ b) × (b ≤ 57)
-a_digit b e = let p = or_parts (ltb b 48) (ltb 57 b) e in (ltb-false b 48 p.0, ltb-false 57 b p.1)
+no_digit b e = grind (arith, nat_tests)
 
 -- no byte is no number
 pub bad_none : (field : List ℕ) → length field ≡ 0 → Number.Bad ≡ number_of field
@@ -45,21 +38,12 @@ pub record Reading (field : List ℕ) (n i : ℕ) : Type 0 where
   pub digits : all_digits field ≡ all_digits (drop i field)
   pub same : decimal_after 0 field ≡ decimal_after n (drop i field)
 
-pub reading_none : (field : List ℕ) → (length field ≡ 0 → ⊥) → Reading field 0 0
-reading_none [] h = absurd (h refl)
-reading_none (b ∷ bs) h = record { some = refl; upto = omega arith; small = omega arith; digits = refl; same = refl }
-
 module _ (field : List ℕ) (n i : ℕ) (p : Reading field n i) where
   pub bad_byte : i < length field → (ltb (get_or field i 0) 48 || ltb 57 (get_or field i 0)) ≡ true → Number.Bad ≡ number_of field
   unfolding number_of
   bad_byte h e = rw (p.some, p.digits, drop-cons field i 0 h, no_digit (get_or field i 0) e)
 
   module _ (h : i < length field) (e : (ltb (get_or field i 0) 48 || ltb 57 (get_or field i 0)) ≡ false) where
-    next_digits : all_digits field ≡ all_digits (drop (i + 1) field)
-    next_digits =
-        let d = a_digit (get_or field i 0) e in
-        p.digits ∙ rw (add-one, drop-cons field i 0 h, le-leb 48 (get_or field i 0) d.0, le-leb (get_or field i 0) 57 d.1)
-
     next_decimal : decimal_after 0 field ≡ decimal_after (n * 10 + (get_or field i 0 - 48)) (drop (i + 1) field)
     next_decimal = p.same ∙ rw (add-one, drop-cons field i 0 h)
 
@@ -73,9 +57,6 @@ module _ (field : List ℕ) (n i : ℕ) (p : Reading field n i) where
             → Number.Bad ≡ cond (t && ltb (decimal_after 0 field) (2 ^ 32)) (Number.Value (decimal_after 0 field)) Number.Bad
         go true q = rw q
         go false q = refl
-
-    pub reading_more : n * 10 + (get_or field i 0 - 48) ≤ 2 ^ 32 - 1 → Reading field (n * 10 + (get_or field i 0 - 48)) (i + 1)
-    reading_more l = record { some = p.some; upto = omega arith; small = omega arith; digits = next_digits; same = next_decimal }
 
   pub reading_done : length field ≤ i → Number.Value n ≡ number_of field
   unfolding number_of
@@ -96,16 +77,6 @@ pub record Writing (n : ℕ) (digits : List ℕ) (first rest : ℕ) : Type 0 whe
   pub inside : first < 20
   pub small : rest < 10 ^ suc first
   pub same : digits_of n ≡ digits_in first rest ++ drop (suc first) digits
-
-pub writing_none : (n : ℕ) (digits : List ℕ) → n < 2 ^ 64 → length digits ≡ 20 → Writing n digits 19 n
-writing_none n digits h e = record {
-  size = e;
-  inside = omega arith;
-  small = omega arith;
-  same =
-      let past : length digits ≤ suc 19 = omega arith in
-      sym (ap (λ (l : List ℕ). digits_in 19 n ++ l) (drop_of_length-le digits past) ∙ append-nil (digits_in 19 n));
-}
 
 module _ (n : ℕ) (digits : List ℕ) where
   pub writing_first : (first rest : ℕ) → Writing n digits first rest → 10 ≤ rest → 1 ≤ first

@@ -9,21 +9,7 @@ use native.Mathlib.Omega.{arith}
 use lib.Dec.{eqb}
 use lib.ListN.{length, take, drop, get_or, length-drop, drop_of_length-le}
 use lib.Seq.{drop-cons, drop-drop}
-use borrow.Author.Tests.{eq-eqb, ne_eqb}
 use Rattle.text.specs.Parts.{onto, cut, lines_of, fields_of, first_part, part_end}
-
--- the part ends at a separator
-pub part_stop : (separator : ℕ) (bytes : List ℕ) (i : ℕ) → i < length bytes → get_or bytes i 0 ≡ separator → i ≡ part_end separator bytes i
-part_stop separator bytes i h e = rw (drop-cons bytes i 0 h, eq-eqb (get_or bytes i 0) separator e) (omega arith)
-
--- and goes on at another byte
-pub part_next : (separator : ℕ) (bytes : List ℕ) (i : ℕ) → i < length bytes → (get_or bytes i 0 ≡ separator → ⊥)
-    → part_end separator bytes i ≡ part_end separator bytes (i + 1)
-part_next separator bytes i h n = rw (add-one, drop-cons bytes i 0 h, ne_eqb (get_or bytes i 0) separator n) (omega arith)
-
--- and ends with the bytes
-pub part_out : (separator : ℕ) (bytes : List ℕ) (i : ℕ) → length bytes ≤ i → i ≡ part_end separator bytes i
-part_out separator bytes i h = rw (drop_of_length-le bytes h) (omega arith)
 
 module _ (separator : ℕ) where
   -- the first part is no longer than the bytes

@@ -1,11 +1,13 @@
 // Text as bytes: parts between separators, numbers read and written, and a buffer to write on. Nothing here refuses: what does not fit on the buffer is left out.
+#![tactic(auto)]
+
 ghost use Rattle.std.specs.Prelude.{◌≡◌, [], ◌∷◌};
 ghost use Rattle.text.specs.Bytes.{same_bytes, Wrote};
 ghost use Rattle.text.specs.Parts.{part_end};
 ghost use Rattle.text.specs.Number.{number_of, digits_of};
 
 // A number of 32 bits, or no such number.
-#[derive(Drop)]
+#[derive(Clone, Copy)]
 pub enum Number {
     Value(u32),
     Bad,

@@ -1,11 +1,13 @@
 // 256-bit values: sum, difference, the test for zero and the lowest bits.
+#![tactic(auto)]
+
 ghost use Rattle.std.specs.Prelude.{◌≡◌, ◌+◌};
 ghost use mir.Val.{bool_byte};
 ghost use Rattle.u256.specs.U256.{value_of, sum_of, difference_of, is_zero, low_of};
 ghost use Rattle.u256.specs.Carry.{Adds, total_of, complement_of};
 
 // Four 64-bit words, the lowest first.
-#[derive(Drop)]
+#[derive(Clone, Copy)]
 pub struct U256 {
     pub w0: u64,
     pub w1: u64,
@@ -13,14 +15,14 @@ pub struct U256 {
     pub w3: u64,
 }
 
-#[derive(Drop)]
+#[derive(Clone, Copy)]
 pub struct Overflowing {
     pub value: U256,
     pub overflow: bool,
 }
 
 // One word of a sum, and what it carries into the next.
-#[derive(Drop)]
+#[derive(Clone, Copy)]
 struct Digit {
     word: u64,
     carry: bool,
@@ -38,6 +40,7 @@ fn add_words(x: u64, y: u64, carry: bool) -> Digit
 }
 
 impl U256 {
+    #[tactic(auto, unfolding(crate::specs::Carry::total_of))]
     fn add_with_carry(self, other: U256, carry: bool) -> Overflowing
         ensures { result ≡ total_of (value_of self + value_of other + bool_byte carry) }
     {
@@ -69,6 +72,7 @@ impl U256 {
         }
     }
 
+    #[tactic(auto, unfolding(crate::specs::U256::sum_of, crate::specs::Carry::total_of))]
     pub fn overflowing_add(self, other: U256) -> Overflowing
         ensures { result ≡ sum_of self other }
     {
@@ -76,6 +80,7 @@ impl U256 {
     }
 
     // a - b is a plus the complement of b plus 1; no carry comes out where b is above a.
+    #[tactic(auto, unfolding(crate::specs::U256::difference_of, crate::specs::Carry::total_of))]
     pub fn overflowing_sub(self, other: U256) -> Overflowing
         ensures { result ≡ difference_of self other }
     {
@@ -87,24 +92,28 @@ impl U256 {
         }
     }
 
+    #[tactic(auto, unfolding(crate::specs::U256::is_zero))]
     pub fn is_zero(self) -> bool
         ensures { result ≡ is_zero self }
     {
         (self.w0 == 0) & (self.w1 == 0) & (self.w2 == 0) & (self.w3 == 0)
     }
 
+    #[tactic(auto, unfolding(crate::specs::U256::low_of))]
     pub fn low_u16(self) -> u16
         ensures { result ≡ low_of 16 self }
     {
         (self.w0 % 0x1_0000) as u16
     }
 
+    #[tactic(auto, unfolding(crate::specs::U256::low_of))]
     pub fn low_u32(self) -> u32
         ensures { result ≡ low_of 32 self }
     {
         (self.w0 % 0x1_0000_0000) as u32
     }
 
+    #[tactic(auto, unfolding(crate::specs::U256::low_of))]
     pub fn low_u64(self) -> u64
         ensures { result ≡ low_of 64 self }
     {

@@ -1,3 +1,0 @@
-pub mod MemoryLaws
-pub mod StagesLaws
-pub mod StagedLaws

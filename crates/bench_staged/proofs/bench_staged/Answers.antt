@@ -1,0 +1,27 @@
+use Rattle.std.proofs.Common.{◌≡◌, ◌+◌, ◌-◌, length, refl, arith}
+use Rattle.bench_lines.specs.Line.{line_width}
+use Rattle.bench_lines.proofs.TurnsLaws as turns
+use Rattle.bench_staged.specs.Staged.{staged_turn, staged_run}
+use Rattle.bench_staged.proofs.bench_staged.Goals as goal
+
+-- the line that is lent is the one at the position
+pub loop-number-preserved : goal.loop-number-preserved
+unfolding staged_turn
+loop-number-preserved c =
+    let lines = c.args.lines.now in
+    let l = c.loop-number in
+    let b = turns.so_far l.state l.charged l.begun l.at l.number l.store in
+    let r = c.step-ran.result in
+    let lent : l.at + line_width - l.at ≡ line_width = omega arith in
+    turns.more (staged_turn lines c.args.words.now c.args.limit) line_width (length lines) c.cycles_of-count.result _ b l.invariant c.loop-number-test.true
+    (turns.so_far r.state c.charged_after-charged.result (l.begun + 1) c.next_line-at.result r.number c.step-ran.new.store)
+    (rw (← c.next_line-at.ensures) (turns.cycled b _ _ _ r _ (rw lent at c.step-ran.ensures) _ c.charged_after-charged.ensures))
+    refl
+    c.next_line-at.ensures
+
+pub returns : goal.returns
+unfolding staged_run
+returns c =
+    let lines = c.args.lines.now in
+    let l = c.loop-number in
+    turns.over (staged_turn lines c.args.words.now c.args.limit) line_width (length lines) c.args.cycles _ c.args.ergs c.cycles_of-count.ensures _ c.start_state-state.ensures c.args.store.now (turns.so_far l.state l.charged l.begun l.at l.number l.store) l.invariant c.loop-number-test.false _ c.tell.ensures

@@ -1,0 +1,7 @@
+use Rattle.std.proofs.Common.{[], ◌∷◌}
+use Rattle.text.specs.Number.{digits_of}
+use Rattle.text.proofs.BytesLaws.{join}
+use Rattle.table.proofs.print.put_field.Goals as goal
+
+pub returns : goal.returns
+returns c = join c.args.buffer.now c.args.at (digits_of c.args.n) (c.args.separator ∷ []) c.put_number-position.ensures c.put_byte.ensures
