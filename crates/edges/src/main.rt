@@ -6,26 +6,18 @@ mod figures;
 mod out;
 mod variants;
 
-use listing::ROOM;
-use std::alloc::AllocError;
-
-fn main(rt: HostRuntime) -> Result<(), AllocError> {
-    let mut buffer = vec![in rt.alloc(); 0u8; ROOM]?;
-    let Some(room) = buffer.as_mut_array::<ROOM>() else {
-        unreachable!()
-    };
+fn main(rt: HostRuntime) {
     figures::marked(&rt);
     figures::unmarked(&rt);
-    variants::example(&rt, room);
-    variants::few_lines(&rt, room);
-    variants::bad_names(&rt, room);
-    variants::bad_fields(&rt, room);
-    variants::bad_values(&rt, room);
-    variants::widest_values(&rt, room);
-    variants::limits(&rt, room);
-    variants::refused(&rt, room);
-    variants::inner_frames(&rt, room);
-    variants::deepest(&rt, room);
-    variants::longest(&rt, room);
-    Ok(())
+    variants::example(&rt);
+    variants::few_lines(&rt);
+    variants::bad_names(&rt);
+    variants::bad_fields(&rt);
+    variants::bad_values(&rt);
+    variants::widest_values(&rt);
+    variants::limits(&rt);
+    variants::refused(&rt);
+    variants::inner_frames(&rt);
+    variants::deepest(&rt);
+    variants::longest(&rt);
 }

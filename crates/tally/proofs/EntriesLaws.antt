@@ -2,12 +2,16 @@
 use Rattle.std.proofs.Common.{◌≡◌, ℕ, true, false, List, [], ◌∷◌, eqb, get_or, refl, arith}
 use Rattle.std.proofs.lemmas.Grind.{common_steps}
 use Rattle.tally.specs.Tally.{enter_refusal, tally_after}
-use Rattle.tally.specs.Entries.{Entry, tally_after_entry, tally_after_entries, taken_of, is_opened, since_opening, spend_of, PlaceHoldsSpend}
+use Rattle.tally.specs.Entries.{Entry, tally_after_entry, tally_after_entries, taken_of, opens_at, is_opened, since_opening, spend_of, PlaceHoldsSpend}
 
 -- with no opening among them, all entries are since the last one
 unopened : (depth : ℕ) (es : List Entry) → is_opened depth es ≡ false → since_opening depth es ≡ es
 unopened depth [] n = refl
 unopened depth (e ∷ es) n = grind (arith, unopened depth es)
+
+-- the opening one itself is not among them
+after_the_opening : (depth : ℕ) (e : Entry) (es : List Entry) → opens_at depth e ≡ true → is_opened depth es ≡ false → since_opening depth (e ∷ es) ≡ es
+after_the_opening depth e es o n = rw (n, o) refl
 
 module _ (tally : List ℕ) (e : Entry) (depth : ℕ) where
   abbrev refusal : ℕ
