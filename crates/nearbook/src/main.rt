@@ -4,31 +4,19 @@
 ghost use Rattle.std.specs.Prelude.{length, ◌≤◌};
 
 use listing::{ROOM, TOO_LONG};
-use std::io::{ErrorKind, Read};
+use std::io::Read;
 
-// Reads until the input ends or the buffer is full, and gives the number of bytes. A read that fails counts as the end of the input, but one that a signal
-// interrupts is tried again.
+// Reads until the input ends or the buffer is full, and gives the number of bytes. A read that fails counts as the end of the input.
 fn read_full(input: &mut impl Read, buffer: &mut [u8]) -> usize
     ensures { result ≤ length buffer.new }
 {
     let mut size = 0;
-    for _ in 0..u64::MAX {
-        if size == buffer.len() {
+    while size < buffer.len() {
+        let n = input.read(&mut buffer[size..]).unwrap_or(0);
+        if n == 0 {
             break;
         }
-        match input.read(&mut buffer[size..]) {
-            Ok(n) => {
-                if n == 0 {
-                    break;
-                }
-                size += n;
-            }
-            Err(e) => {
-                if e.kind() != ErrorKind::Interrupted {
-                    break;
-                }
-            }
-        }
+        size += n;
     }
     size
 }
