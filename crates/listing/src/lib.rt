@@ -141,7 +141,7 @@ fn from_third(
 }
 
 // The second line, from a position of the input on, and those after it.
-#[tactic(auto, using(crate::proofs::ListingLaws::lines), unfolding(crate::specs::Listing::second_on))]
+#[tactic(auto, using(crate::proofs::ListingLaws::lines))]
 fn from_second(input: &[u8], at: usize, buffer: &mut [u8], position: usize) -> usize
     requires { (length input.now ≤ 65536) × (at ≤ length input.now) × (position ≤ length buffer.old) }
     ensures { Wrote buffer.old position (second_on (lines_of (drop at input.now))) buffer.new result }
