@@ -17,6 +17,15 @@ module _ (tally : List ℕ) (e : Entry) (depth : ℕ) where
   abbrev refusal : ℕ
   refusal = enter_refusal tally e.limit e.before e.after e.charge
 
+  -- a refused entry changes nothing, and is not among those taken
+  unchanged : eqb refusal 0 ≡ false → tally_after_entry tally e ≡ tally
+  unfolding tally_after
+  unchanged t = rw t refl
+
+  left_out : (es : List Entry) → eqb refusal 0 ≡ false → taken_of tally (e ∷ es) ≡ taken_of (tally_after_entry tally e) es
+  unfolding taken_of
+  left_out es t = rw t refl
+
   -- the place after an entry that is not refused
   place : eqb refusal 0 ≡ true → get_or (tally_after_entry tally e) depth 0 ≡ spend_of tally depth (e ∷ [])
   unfolding tally_after
@@ -30,8 +39,8 @@ module _ (tally : List ℕ) (e : Entry) (depth : ℕ) where
   more : (es : List Entry)
       → ((t : List ℕ) → get_or (tally_after_entries t es) depth 0 ≡ spend_of t depth (taken_of t es))
       → get_or (tally_after_entries tally (e ∷ es)) depth 0 ≡ spend_of tally depth (taken_of tally (e ∷ es))
-  unfolding tally_after_entries taken_of tally_after
-  more es rest = grind (arith, first, rest)
+  unfolding tally_after_entries taken_of
+  more es rest = grind (arith, first, rest, unchanged, left_out)
 
 pub place_holds_spend : PlaceHoldsSpend
 unfolding tally_after_entries taken_of

@@ -1,5 +1,5 @@
 use Rattle.std.proofs.Common.{◌≡◌, ◌+◌, ◌-◌, length, refl, arith}
-use Rattle.bench_lines.specs.Line.{line_width}
+use Rattle.bench_lines.specs.Line.{line_width, word_at}
 use Rattle.bench_lines.proofs.TurnsLaws as turns
 use Rattle.bench_opaque.specs.Opaque.{opaque_turn, opaque_run}
 use Rattle.bench_opaque.proofs.bench_opaque.Goals as goal
@@ -24,5 +24,7 @@ unfolding opaque_run
 returns c =
     let lines = c.args.lines.now in
     let l = c.loop-number in
-    rw (← c.word_of-code_word.ensures, ← c.word_of-source_word.ensures)
+    let code : c.word_of-code_word.result ≡ word_at c.args.code.now 0 = c.word_of-code_word.ensures in
+    let source : c.word_of-source_word.result ≡ word_at c.args.source.now 0 = c.word_of-source_word.ensures in
+    rw (← code, ← source)
     (turns.over (opaque_turn lines c.word_of-code_word.result c.word_of-source_word.result c.args.limit) line_width (length lines) c.args.cycles _ c.args.ergs c.cycles_of-count.ensures _ c.start_state-state.ensures c.args.store.now (turns.so_far l.state l.charged l.begun l.at l.number l.store) l.invariant c.loop-number-test.false _ c.tell.ensures)
