@@ -16,7 +16,7 @@ use Rattle.frame.specs.Row.{row_of, frame_of}
 use Rattle.frame.specs.Store.{saved_store, read_of, saved_ergs}
 use Rattle.registers.specs.Registers.{empty_word}
 use Rattle.signed.specs.Signed.{checked_of, word_of, signed_of}
-use Rattle.u256.specs.U256.{sum_of, difference_of, is_zero}
+use Rattle.u256.specs.U256.{one_word, sum_of, difference_of, is_zero}
 use Rattle.rules.specs.Code.{code_bits}
 use Rattle.rules.specs.Record.{bad_records}
 use Rattle.rules.specs.Charge.{error_flags}
@@ -41,7 +41,7 @@ use Rattle.lists.specs.Claims.{ClosesWithLast, CallerResumes, span}
 use Rattle.lists.proofs.Resume.{callers_resume}
 use Rattle.calls.specs.Core.{lasting_of, core, execute_outcome}
 use Rattle.calls.proofs.CoreLaws.{laws}
-use Rattle.stepper.specs.Start.{word, instruction, records_of, start_state, settings_of, empty_store}
+use Rattle.stepper.specs.Start.{instruction, records_of, start_state, settings_of, empty_store}
 
 -- a line of the listing: operation, return kind, price, request. Operands are called with a limit of 0, which is refusal 1, and fetch out of its turn, which is 2.
 abbrev pub line : ℕ → ℕ → ℕ → ℕ → List (Call core)
@@ -50,8 +50,8 @@ line operation kind price want =
     ∷ decode (record { settings = settings_of 4 1; records = records_of (instruction operation kind 4 0 0 0 0 0 0 price false) })
     ∷ operands (settings_of 0 1)
     ∷ operands (settings_of 4 1)
-    ∷ fetch (record { settings = settings_of 4 1; word = word 7 })
-    ∷ execute (record { settings = settings_of 4 1; word = word want; pointer = false })
+    ∷ fetch (record { settings = settings_of 4 1; word = one_word 7 })
+    ∷ execute (record { settings = settings_of 4 1; word = one_word want; pointer = false })
     ∷ []
 
 abbrev pub listing : List (Call core)
@@ -100,7 +100,7 @@ cycle_of earlier operation kind price want = record {
     store = (at 1).store;
   };
   operands = record { input = settings_of 4 1; state = (at 3).state; store = (at 3).store };
-  execute = record { input = record { settings = settings_of 4 1; word = word want; pointer = false }; state = (at 5).state; store = (at 5).store };
+  execute = record { input = record { settings = settings_of 4 1; word = one_word want; pointer = false }; state = (at 5).state; store = (at 5).store };
 }
   where
     at : ℕ → Outcome State

@@ -13,10 +13,12 @@ use Rattle.std.proofs.lemmas.Bool.Decides.{nat_tests}
 use borrow.Author.Tests.{eqb-true, eqb-false, not-false}
 use Rattle.u256.specs.declared.U256.{U256}
 use Rattle.frame.specs.declared.Frame.{Frame}
-use Rattle.frame.specs.declared.ReadAnswer.{ReadAnswer}
+use Rattle.std.specs.Prelude.{Result, Ok, Err}
+use mathlib.Core.Option.{some}
+use Rattle.frame.specs.declared.RowError.{RowError}
 use Rattle.frame.specs.Fields.{with_pc}
 use Rattle.frame.specs.Kernel.{kernel_mode}
-use Rattle.frame.specs.Refusal.{Check, first_of, ◌refuses◌}
+use Rattle.refusal.specs.Refusal.{Check, first_of, ◌refuses◌}
 use Rattle.frame.specs.Row.{row_of, frame_of, good_row}
 use Rattle.frame.specs.Store.{whole_rows, row_at, saved_store, read_of}
 use Rattle.frame.proofs.StoreLaws.{saved_row, saved_below}
@@ -42,9 +44,9 @@ use Rattle.lists.specs.Machine as machines
 use Rattle.lists.specs.Machine.{Outcome}
 use Rattle.lists.specs.Lists.{execute}
 use Rattle.lists.specs.Laws.{Advances, Performs}
-use Rattle.calls.specs.Core.{core, ExecuteInput, execute_refused, execute_outcome, stage_of, operation_of, lasting_of}
+use Rattle.calls.specs.Core.{core, ExecuteInput, refused_by, execute_outcome, stage_of, operation_of, lasting_of}
 use Rattle.calls.specs.Answers.{is_one_of, execute_numbers}
-use Rattle.calls.proofs.Views.{View, refused, done, by_number, both, within, numbers_in, listed}
+use Rattle.calls.proofs.Views.{View, refused, done, by_number, both, within, numbers_in, listed, told_back}
 use Rattle.calls.proofs.Stages.{turn}
 
 bit_back : (b : Bool) → eqb (bool_byte b) 1 ≡ b
@@ -63,10 +65,10 @@ lasting_row f =
     )
 
 -- the frame that reading row i gives is that of its words
-good_frame : (a b : Bool) (f g : Frame) → cond a (cond b (ReadAnswer.Good g) ReadAnswer.NotGood) ReadAnswer.Missing ≡ ReadAnswer.Good f → f ≡ g
+good_frame : (a b : Bool) (f g : Frame) → cond {A = Result Frame RowError} a (cond b (Ok g) (Err RowError.NotGood)) (Err RowError.Missing) ≡ Ok f → f ≡ g
 good_frame a b f g = grind arith
 
-read_good : (store : List ℕ) (i : ℕ) (f : Frame) → read_of 16 store i ≡ ReadAnswer.Good f → f ≡ frame_of (row_at store i)
+read_good : (store : List ℕ) (i : ℕ) (f : Frame) → read_of 16 store i ≡ Ok f → f ≡ frame_of (row_at store i)
 unfolding read_of
 read_good store i f = good_frame (ltb i (whole_rows store)) (good_row 16 (row_at store i)) f (frame_of (row_at store i))
 
@@ -78,7 +80,7 @@ module _ (x : ExecuteInput) (s : State) (store : List ℕ) (at : stage_of s.stag
   settings = x.settings
 
   outcome : Executed → List ℕ → Outcome State
-  outcome r after = record { refusal = execute_refused r.answer; state = r.state; store = after }
+  outcome r after = record { refusal = refused_by r.answer; state = r.state; store = after }
 
   abbrev Viewed : Executed → List ℕ → Type 0
   Viewed r after =
@@ -87,7 +89,7 @@ module _ (x : ExecuteInput) (s : State) (store : List ℕ) (at : stage_of s.stag
   -- a refusal with one of execute's numbers
   unchanged : (n : ℕ) → is_one_of n execute_numbers ≡ true → Viewed (refused_with s n) store
   unfolding outcome
-  unchanged n m = refused (record { number = n; told = refl; listed = m; unchanged = record { state_same = refl; store_same = refl } })
+  unchanged n m = refused (record { number = n; told = ap some (told_back n execute_numbers tt m); listed = m; unchanged = record { state_same = refl; store_same = refl } })
 
   -- by the checks of an operation
   checked : (cs : List Check) → T (within (numbers_in cs) execute_numbers) → (first_of cs ≡ 0 → ⊥) → Viewed (refused_with s (first_of cs)) store
@@ -150,9 +152,9 @@ module _ (x : ExecuteInput) (s : State) (store : List ℕ) (at : stage_of s.stag
       checks = (eqb s.depth settings.depth_limit refuses 9) ∷ (late_in settings s refuses 14) ∷ []
 
   -- ---- return
-  close_view : operation_of op ≡ machines.ret → (s.depth ≡ 0 → ⊥) → (row : ReadAnswer) → read_of 16 store (s.depth - 1) ≡ row → Viewed (return_to settings s row) store
+  close_view : operation_of op ≡ machines.ret → (s.depth ≡ 0 → ⊥) → (row : Result Frame RowError) → read_of 16 store (s.depth - 1) ≡ row → Viewed (return_to settings s row) store
   unfolding outcome close_of close_done switched_state finished_state resumed_with resumed_of lasting_of machines.row_at
-  close_view e d (ReadAnswer.Good caller) q =
+  close_view e d (Ok caller) q =
       by_number (λ r. Viewed r store) (close_refusal_in settings caller s) (refused_with s) (close_done settings caller s)
       (λ z.
       let read = read_good store (s.depth - 1) caller q in
@@ -173,8 +175,8 @@ module _ (x : ExecuteInput) (s : State) (store : List ℕ) (at : stage_of s.stag
       ∷ (is_shrunk caller s.current refuses 13)
       ∷ (late_in settings s refuses 14)
       ∷ []) tt)
-  close_view e d ReadAnswer.Missing q = unchanged 1 refl
-  close_view e d ReadAnswer.NotGood q = unchanged 8 refl
+  close_view e d (Err RowError.Missing) q = unchanged 1 refl
+  close_view e d (Err RowError.NotGood) q = unchanged 8 refl
 
   return_view : operation_of op ≡ machines.ret → Viewed (return_of settings s store) store
   unfolding return_of
@@ -211,7 +213,7 @@ execute_view x s store =
     refused
     (record {
       number = n;
-      told = refl;
+      told = ap some (told_back n execute_numbers tt (listed checks execute_numbers tt (eqb-false n 0 f)));
       listed = listed checks execute_numbers tt (eqb-false n 0 f);
       unchanged = record { state_same = refl; store_same = refl };
     }))
@@ -234,9 +236,9 @@ execute_view x s store =
 
     P : Executed → List ℕ → Type 0
     P r after =
-        View execute_numbers s store (record { refusal = execute_refused r.answer; state = r.state; store = after })
-        (Advances core (execute x) s (record { refusal = execute_refused r.answer; state = r.state; store = after })
-        × Performs core (core.kept s) x s store (record { refusal = execute_refused r.answer; state = r.state; store = after }))
+        View execute_numbers s store (record { refusal = refused_by r.answer; state = r.state; store = after })
+        (Advances core (execute x) s (record { refusal = refused_by r.answer; state = r.state; store = after })
+        × Performs core (core.kept s) x s store (record { refusal = refused_by r.answer; state = r.state; store = after }))
 
     a : U256
     a = (sources_in x.word x.pointer s).src0.value

@@ -1,6 +1,6 @@
 -- A stage's outcome is a refusal that changes nothing, or finished with what the stage does. Assumes nothing.
 use Prim.Native.Nat.{ℕ}
-use mathlib.Core.Bool.{Bool, true, false, cond}
+use mathlib.Core.Bool.{Bool, true, false, cond, ◌||◌}
 use mathlib.Core.Path.{◌≡◌, refl}
 use mathlib.Core.Logic.{◌⊎◌, inl, inr}
 use mathlib.Core.List.{List, [], ◌∷◌}
@@ -8,16 +8,16 @@ use lib.Dec.{T, eqb}
 use native.Mathlib.Omega.{arith}
 use borrow.Author.Tests.{eqb-true, eqb-false}
 use Rattle.std.proofs.lemmas.Bool.Decides.{nat_tests}
-use Rattle.frame.specs.Refusal.{Check, first_of}
+use Rattle.refusal.specs.Refusal.{Check, first_of, paper_number, numbered_refusal}
 use Rattle.cycle.specs.declared.State.{State}
 use Rattle.cycle.specs.State.{settled}
 use Rattle.lists.specs.Machine.{Outcome, finished}
 use Rattle.lists.specs.Laws.{Unchanged}
 use Rattle.calls.specs.Core.{core}
-use Rattle.calls.specs.Answers.{is_one_of, Refusal}
+use Rattle.calls.specs.Answers.{is_one_of, Refuses}
 
 pub data View (numbers : List ℕ) (s : State) (store : List ℕ) (o : Outcome State) (Done : Type 0) : Type 0 where
-  refused : Refusal numbers s store o → View numbers s store o Done
+  refused : Refuses numbers s store o → View numbers s store o Done
   done : finished o ≡ true → Done → View numbers s store o Done
 
 module _ {numbers : List ℕ} {s : State} {store : List ℕ} {o : Outcome State} {Done : Type 0} where
@@ -29,7 +29,7 @@ module _ {numbers : List ℕ} {s : State} {store : List ℕ} {o : Outcome State}
   if_done (refused r) e = let h : finished o ≡ false = rw r.told in absurd (cc)
   if_done (done t d) e = d
 
-  pub either : View numbers s store o Done → (finished o ≡ true) ⊎ Refusal numbers s store o
+  pub either : View numbers s store o Done → (finished o ≡ true) ⊎ Refuses numbers s store o
   either (refused r) = inr r
   either (done t d) = inl t
 
@@ -69,3 +69,19 @@ first_in (c ∷ cs) h = grind (arith, nat_tests, first_in cs)
 -- the number of checks that refuse is one of a list that has all theirs
 pub listed : (cs : List Check) (ms : List ℕ) → T (within (numbers_in cs) ms) → (first_of cs ≡ 0 → ⊥) → is_one_of (first_of cs) ms ≡ true
 listed cs ms t h = widen (first_of cs) (numbers_in cs) ms t (first_in cs h)
+
+-- the numbers are those of refusals
+abbrev pub all_told : List ℕ → Bool
+all_told [] = true
+all_told (m ∷ ms) = cond (eqb (paper_number (numbered_refusal m)) m) (all_told ms) false
+
+-- the refusal of one of them has it
+pub told_back : (n : ℕ) (ms : List ℕ) → T (all_told ms) → is_one_of n ms ≡ true → paper_number (numbered_refusal n) ≡ n
+told_back n [] t e = absurd (cc)
+told_back n (m ∷ ms) t e = by_test (told_back n ms) (eqb (paper_number (numbered_refusal m)) m) refl (eqb n m) refl t e
+  where
+    by_test : (T (all_told ms) → is_one_of n ms ≡ true → paper_number (numbered_refusal n) ≡ n) → (a : Bool) → eqb (paper_number (numbered_refusal m)) m ≡ a → (b : Bool) → eqb n m ≡ b
+        → T (cond a (all_told ms) false) → (b || is_one_of n ms) ≡ true → paper_number (numbered_refusal n) ≡ n
+    by_test later true ea true eb t e = let k = eqb-true n m eb in rw k (eqb-true _ _ ea)
+    by_test later true ea false eb t e = later t e
+    by_test later false ea b eb t e = elim t [ ]

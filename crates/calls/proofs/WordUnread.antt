@@ -7,7 +7,10 @@ use native.Mathlib.Omega.{arith}
 use lib.Dec.{eqb}
 use borrow.Author.Tests.{not-false}
 use Rattle.u256.specs.declared.U256.{U256}
-use Rattle.frame.specs.Refusal.{Check, ◌refuses◌}
+use Rattle.std.specs.Prelude.{Result, Ok, Err}
+use Rattle.refusal.specs.declared.Refusal.{Refusal}
+use Rattle.cycle.specs.declared.OperandsAnswer.{OperandsAnswer}
+use Rattle.refusal.specs.Refusal.{Check, ◌refuses◌, numbered_refusal}
 use Rattle.rules.specs.declared.Settings.{Settings}
 use Rattle.rules.specs.declared.Record.{Record}
 use Rattle.rules.specs.declared.Location.{Location}
@@ -19,7 +22,6 @@ use Rattle.rules.specs.Address.{lacks_stack_page, source_read, source_at, places
 use Rattle.rules.specs.Sources.{register_value, sources_of}
 use Rattle.rules.proofs.RefusalLaws.{clear}
 use Rattle.cycle.specs.declared.State.{State}
-use Rattle.cycle.specs.declared.OperandsAnswer.{OperandsAnswer}
 use Rattle.cycle.specs.State.{bad_store, out_of_turn, decoded}
 use Rattle.cycle.specs.Operands.{record_of, stack_page, places_in, operands_refusal, addressed_state, operands_done, operands_of}
 use Rattle.cycle.specs.Execute.{sources_in, execute_done, execute_of, execute_store}
@@ -57,14 +59,19 @@ alike : (settings : Settings) (s : State) (store : List ℕ) (word other : U256)
 unfolding execute_of execute_done execute_store
 alike settings s store word other pointer bit e = record { result_same = rw e; store_same = rw e }
 
+-- the source that operands told
+abbrev told : Result OperandsAnswer Refusal → Location
+told (Ok answer) = answer.source
+told (Err refusal) = Location.None
+
 pub word_unread : WordUnread
 unfolding operands_of operands_done addressed_state
 word_unread settings s store destination given later after word other pointer bit =
-    by_number (λ r. r.answer ≡ OperandsAnswer.Done Location.None destination → ExecutesAlike later r.state after word other pointer bit)
-    (operands_refusal settings s store) (λ n. record { state = s; answer = OperandsAnswer.Refused n }) (operands_done 16 s)
+    by_number (λ r. r.answer ≡ Ok (record { source = Location.None; destination = destination }) → ExecutesAlike later r.state after word other pointer bit)
+    (operands_refusal settings s store) (λ n. record { state = s; answer = Err (numbered_refusal n) }) (operands_done 16 s)
     (λ z e.
     let c = clear checks tt z in
-    let none : (places_in 16 s).source ≡ Location.None = cc in
+    let none : (places_in 16 s).source ≡ Location.None = ap told e in
     alike later (operands_done 16 s).state after word other pointer bit
     (sources_same (record_of s) s.registers s.pointers 16 (stack_page s) s.current.code_page s.current.sp word other pointer bit
     (not-false (good_record (record_of s)) c.1.1.0) none))

@@ -1,9 +1,9 @@
 -- Demand 1: "Whoever calls a stage, with any state, record or frame store, gets a finished answer or one of fifteen refusals, and a refusal hands back the state it was
 -- given and alters no word of the frame store or tally."
-use Rattle.std.specs.Prelude.{ℕ, Bool, true, false, ◌||◌, ◌≡◌, ◌⊎◌, List, [], ◌∷◌, eqb}
+use Rattle.std.specs.Prelude.{ℕ, Bool, true, false, ◌||◌, ◌≡◌, ◌⊎◌, List, [], ◌∷◌, Ok, Err, eqb}
 use Rattle.std.proofs.Math.Option.{some}
+use Rattle.refusal.specs.declared.Refusal.{Refusal}
 use Rattle.cycle.specs.declared.State.{State}
-use Rattle.tally.specs.declared.EnterAnswer.{EnterAnswer}
 use Rattle.tally.specs.Tally.{enter_of, tally_after}
 use Rattle.cycle.specs.Decode.{decode_of}
 use Rattle.stepper.specs.Cycle.{decode_charge}
@@ -36,7 +36,7 @@ numbers_of (operands x) = operands_numbers
 numbers_of (execute x) = execute_numbers
 
 -- a refusal with one of these numbers, after which all is as it was
-pub record Refusal (numbers : List ℕ) (s : State) (store : List ℕ) (o : Outcome State) : Type 0 where
+pub record Refuses (numbers : List ℕ) (s : State) (store : List ℕ) (o : Outcome State) : Type 0 where
   pub number : ℕ
   pub told : o.refusal ≡ some number
   pub listed : is_one_of number numbers ≡ true
@@ -45,17 +45,17 @@ pub record Refusal (numbers : List ℕ) (s : State) (store : List ℕ) (o : Outc
 abbrev pub EveryCallAnswers : Type 0
 EveryCallAnswers =
     (c : Call core) (s : State) (store : List ℕ)
-    → (finished (outcome_of core c s store) ≡ true) ⊎ Refusal (numbers_of c) s store (outcome_of core c s store)
+    → (finished (outcome_of core c s store) ≡ true) ⊎ Refuses (numbers_of c) s store (outcome_of core c s store)
 
 -- the tally refuses with 15 alone
 pub record TallyRefusal (tally : List ℕ) (limit before after charge : ℕ) : Type 0 where
-  pub told : enter_of tally limit before after charge ≡ EnterAnswer.Refused 15
+  pub told : enter_of tally limit before after charge ≡ Err Refusal.TallyEntry
   pub unchanged : tally_after tally limit before after charge ≡ tally
 
 abbrev pub EveryEntryAnswers : Type 0
 EveryEntryAnswers =
     (tally : List ℕ) (limit before after charge : ℕ)
-    → (enter_of tally limit before after charge ≡ EnterAnswer.Entered) ⊎ TallyRefusal tally limit before after charge
+    → (enter_of tally limit before after charge ≡ Ok tt) ⊎ TallyRefusal tally limit before after charge
 
 -- Document 01: "The answer gives the flags and the charge." Where decode finishes, that charge is the one that demand 3 counts.
 abbrev pub ChargeAnswered : Type 0

@@ -1,16 +1,14 @@
 -- The cycle core as a machine of four stages, for the claims about lists of stage calls: which field is meant by each of its parts.
-use Rattle.std.specs.Prelude.{ℕ, Bool, cond, List, eqb, pos}
+use Rattle.std.specs.Prelude.{ℕ, Bool, cond, List, Result, Ok, Err, eqb, pos}
 use Rattle.std.proofs.Math.Option.{Option, none, some}
 use Rattle.u256.specs.declared.U256.{U256}
+use Rattle.refusal.specs.declared.Refusal.{Refusal}
+use Rattle.refusal.specs.Refusal.{paper_number}
 use Rattle.frame.specs.declared.Frame.{Frame}
 use Rattle.frame.specs.Row.{row_width, frame_of}
 use Rattle.rules.specs.declared.Settings.{Settings}
 use Rattle.rules.specs.declared.Records.{Records}
 use Rattle.cycle.specs.declared.State.{State}
-use Rattle.cycle.specs.declared.FetchAnswer.{FetchAnswer}
-use Rattle.cycle.specs.declared.DecodeAnswer.{DecodeAnswer}
-use Rattle.cycle.specs.declared.OperandsAnswer.{OperandsAnswer}
-use Rattle.cycle.specs.declared.ExecuteAnswer.{ExecuteAnswer}
 use Rattle.cycle.specs.Fetch.{fetch_of}
 use Rattle.cycle.specs.Decode.{decode_of, kept_of}
 use Rattle.cycle.specs.Operands.{operands_of}
@@ -18,24 +16,10 @@ use Rattle.cycle.specs.NearCall.{passed_in}
 use Rattle.cycle.specs.Execute.{execute_of, execute_store, want_in}
 use Rattle.lists.specs.Machine as machines
 
--- the refusal of an answer, if it is one
-abbrev pub fetch_refused : FetchAnswer → Option ℕ
-fetch_refused (FetchAnswer.Code bits) = none
-fetch_refused FetchAnswer.Exception = none
-fetch_refused FetchAnswer.Nop = none
-fetch_refused (FetchAnswer.Refused n) = some n
-
-abbrev pub decode_refused : DecodeAnswer → Option ℕ
-decode_refused (DecodeAnswer.Done charge errors) = none
-decode_refused (DecodeAnswer.Refused n) = some n
-
-abbrev pub operands_refused : OperandsAnswer → Option ℕ
-operands_refused (OperandsAnswer.Done source destination) = none
-operands_refused (OperandsAnswer.Refused n) = some n
-
-abbrev pub execute_refused : ExecuteAnswer → Option ℕ
-execute_refused (ExecuteAnswer.Done write event) = none
-execute_refused (ExecuteAnswer.Refused n) = some n
+-- the number of an answer's refusal, if it is one
+abbrev pub refused_by : {A : Type 0} → Result A Refusal → Option ℕ
+refused_by (Ok answer) = none
+refused_by (Err refusal) = some (paper_number refusal)
 
 -- what each stage is given besides the state and the store
 pub record FetchInput : Type 0 where
@@ -54,28 +38,28 @@ pub record ExecuteInput : Type 0 where
 -- fetch, decode and operands leave the store as it is
 abbrev pub fetch_outcome : FetchInput → State → List ℕ → machines.Outcome State
 fetch_outcome x s store = record {
-  refusal = fetch_refused (fetch_of x.settings x.word s store).answer;
+  refusal = refused_by (fetch_of x.settings x.word s store).answer;
   state = (fetch_of x.settings x.word s store).state;
   store = store;
 }
 
 abbrev pub decode_outcome : DecodeInput → State → List ℕ → machines.Outcome State
 decode_outcome x s store = record {
-  refusal = decode_refused (decode_of x.settings x.records s store).answer;
+  refusal = refused_by (decode_of x.settings x.records s store).answer;
   state = (decode_of x.settings x.records s store).state;
   store = store;
 }
 
 abbrev pub operands_outcome : Settings → State → List ℕ → machines.Outcome State
 operands_outcome settings s store = record {
-  refusal = operands_refused (operands_of settings s store).answer;
+  refusal = refused_by (operands_of settings s store).answer;
   state = (operands_of settings s store).state;
   store = store;
 }
 
 abbrev pub execute_outcome : ExecuteInput → State → List ℕ → machines.Outcome State
 execute_outcome x s store = record {
-  refusal = execute_refused (execute_of x.settings x.word x.pointer s store).answer;
+  refusal = refused_by (execute_of x.settings x.word x.pointer s store).answer;
   state = (execute_of x.settings x.word x.pointer s store).state;
   store = execute_store x.settings x.word x.pointer s store;
 }

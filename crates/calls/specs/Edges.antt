@@ -1,7 +1,9 @@
 -- The edges that document 01 marks P, in its words and order, each computed by the definitions that the stages are proved equal to.
-use Rattle.std.specs.Prelude.{ℕ, ◌-◌, ◌^◌, true, false, ◌≡◌, List, [], ◌∷◌, ◌++◌, replicate}
+use Rattle.std.specs.Prelude.{ℕ, ◌-◌, ◌^◌, true, false, ◌≡◌, List, [], ◌∷◌, ◌++◌, Option, None, Some, Result, Ok, Err, replicate}
 use mir.Val.{bool_byte}
-use Rattle.u256.specs.U256.{value_of, words_of}
+use Rattle.u256.specs.U256.{value_of, words_of, one_word}
+use Rattle.refusal.specs.declared.Refusal.{Refusal}
+use Rattle.refusal.specs.Refusal.{paper_number}
 use Rattle.frame.specs.Row.{frame_of}
 use Rattle.frame.specs.Store.{row_at}
 use Rattle.registers.specs.Registers.{empty_word, register_of}
@@ -21,23 +23,23 @@ use Rattle.cycle.specs.Decode.{decode_of}
 use Rattle.cycle.specs.Operands.{operands_of}
 use Rattle.cycle.specs.Execute.{execute_of, execute_store}
 use Rattle.cycle.specs.Answers.{location_case, fetch_case}
-use Rattle.stepper.specs.Start.{word, instruction, records_of, state_at, settings_of, empty_store}
+use Rattle.stepper.specs.Start.{instruction, records_of, state_at, settings_of, empty_store}
 
 pub record Edge : Type 0 where
   pub computed : List ℕ
   pub stated : List ℕ
 
 -- decode of an add with this price at so many ergs: the ergs left, whether there is a flag, NOT_ENOUGH_ERGS, the charge, the operation and the return kind kept
-abbrev figures : State → DecodeAnswer → List ℕ
-figures s (DecodeAnswer.Done charge errors) =
+abbrev figures : State → Result DecodeAnswer Refusal → List ℕ
+figures s (Ok answer) =
     s.current.ergs_remaining
-    ∷ bool_byte (any_error errors)
-    ∷ bool_byte errors.not_enough_ergs
-    ∷ charge
+    ∷ bool_byte (any_error answer.errors)
+    ∷ bool_byte answer.errors.not_enough_ergs
+    ∷ answer.charge
     ∷ s.kept.instruction.operation
     ∷ s.kept.instruction.return_kind
     ∷ []
-figures s (DecodeAnswer.Refused n) = n ∷ []
+figures s (Err refusal) = paper_number refusal ∷ []
 
 abbrev pub decodes : ℕ → ℕ → List ℕ
 decodes ergs price = figures after.state after.answer
@@ -48,27 +50,30 @@ decodes ergs price = figures after.state after.answer
         (empty_store 4)
 
 -- a near call that requests so much, at this multiplier and so many ergs: the depth afterwards, what is given, and what is kept in the caller's row
-abbrev division : State → ExecuteAnswer → List ℕ → List ℕ
-division s (ExecuteAnswer.Done write Event.Opened) row = s.depth ∷ s.current.ergs_remaining ∷ (frame_of row).ergs_remaining ∷ []
-division s (ExecuteAnswer.Done write Event.None) row = []
-division s (ExecuteAnswer.Done write (Event.Closed panicked)) row = []
-division s (ExecuteAnswer.Refused n) row = n ∷ []
+abbrev opening : State → Option Event → List ℕ → List ℕ
+opening s (Some Event.Opened) row = s.depth ∷ s.current.ergs_remaining ∷ (frame_of row).ergs_remaining ∷ []
+opening s (Some (Event.Closed panicked)) row = []
+opening s None row = []
+
+abbrev division : State → Result ExecuteAnswer Refusal → List ℕ → List ℕ
+division s (Ok answer) row = opening s answer.event row
+division s (Err refusal) row = paper_number refusal ∷ []
 
 abbrev pub calls : ℕ → ℕ → ℕ → List ℕ
 calls multiplier held want =
     division after.state after.answer (row_at (execute_store (settings_of 4 multiplier) empty_word false s (empty_store 4)) 1)
   where
     s : State
-    s = state_at 3 (word want ∷ replicate 14 empty_word) held 0 (instruction 3 0 0 0 1 0 0 0 0 0 false)
+    s = state_at 3 (one_word want ∷ replicate 14 empty_word) held 0 (instruction 3 0 0 0 1 0 0 0 0 0 false)
 
     after : Executed
     after = execute_of (settings_of 4 multiplier) empty_word false s (empty_store 4)
 
 -- operands of these kinds (2 is push/pop) with these immediates, at this sp: the source and the destination, each 0 for none or 1, memory kind, page and index,
 -- and sp afterwards
-abbrev places : State → OperandsAnswer → List ℕ
-places s (OperandsAnswer.Done source destination) = location_case source ++ (location_case destination ++ (s.current.sp ∷ []))
-places s (OperandsAnswer.Refused n) = n ∷ []
+abbrev places : State → Result OperandsAnswer Refusal → List ℕ
+places s (Ok answer) = location_case answer.source ++ (location_case answer.destination ++ (s.current.sp ∷ []))
+places s (Err refusal) = paper_number refusal ∷ []
 
 abbrev pub addresses : ℕ → ℕ → ℕ → ℕ → ℕ → List ℕ
 addresses source destination imm0 imm1 sp = places after.state after.answer

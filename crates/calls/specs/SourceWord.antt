@@ -1,11 +1,10 @@
 -- When execute and fetch look at the word that they are given. Document 01: execute "takes the word read and its pointer bit, looked at only where a source
 -- location was given".
-use Rattle.std.specs.Prelude.{ℕ, Bool, ◌≡◌, List}
+use Rattle.std.specs.Prelude.{ℕ, Bool, ◌≡◌, List, Ok}
 use Rattle.u256.specs.declared.U256.{U256}
 use Rattle.rules.specs.declared.Settings.{Settings}
 use Rattle.rules.specs.declared.Location.{Location}
 use Rattle.cycle.specs.declared.State.{State}
-use Rattle.cycle.specs.declared.OperandsAnswer.{OperandsAnswer}
 use Rattle.cycle.specs.Fetch.{query_of, fetch_of}
 use Rattle.cycle.specs.Operands.{operands_of}
 use Rattle.cycle.specs.Execute.{execute_of, execute_store}
@@ -19,7 +18,7 @@ pub record ExecutesAlike (settings : Settings) (s : State) (store : List ℕ) (w
 abbrev pub WordUnread : Type 0
 WordUnread =
     (settings : Settings) (s : State) (store : List ℕ) (destination : Location)
-    → (operands_of settings s store).answer ≡ OperandsAnswer.Done Location.None destination
+    → (operands_of settings s store).answer ≡ Ok (record { source = Location.None; destination = destination })
     → (later : Settings) (after : List ℕ) (word other : U256) (pointer bit : Bool)
     → ExecutesAlike later (operands_of settings s store).state after word other pointer bit
 

@@ -1,10 +1,13 @@
 -- The number of execute's answer is that of the first check that holds, and what it tells is what document 01 says. Assumes nothing.
 use Rattle.std.proofs.Common.{◌≡◌, ℕ, zero, suc, ◌+◌, ◌-◌, ◌/◌, ◌<◌, Bool, true, false, cond, not, ◌&&◌, ◌||◌, eqb, ltb, List, [], ◌∷◌, ◌++◌, length, refl, arith, eqb-true}
+use Rattle.std.proofs.lemmas.Bool.{eqb-false}
 use mir.Val.{bool_byte}
 use Rattle.u256.specs.declared.U256.{U256}
 use Rattle.u256.specs.U256.{value_of}
-use Rattle.frame.specs.declared.ReadAnswer.{ReadAnswer}
-use Rattle.frame.specs.Refusal.{Check, first_of, ◌refuses◌}
+use Rattle.std.specs.Prelude.{Ok, Err}
+use Rattle.frame.specs.declared.RowError.{RowError}
+use Rattle.refusal.specs.Refusal.{Check, first_of, ◌refuses◌, paper_number, numbered_refusal, refusal_number}
+use Rattle.refusal.proofs.NumberLaws.{number_first}
 use Rattle.frame.specs.Row.{row_width, good_row}
 use Rattle.frame.specs.Store.{whole_rows, read_of}
 use Rattle.rules.specs.declared.Settings.{Settings}
@@ -21,28 +24,32 @@ use Rattle.cycle.specs.NearCall.{near_call_done, near_call_of}
 use Rattle.cycle.specs.Ret.{is_ok, return_refusal, close_refusal_in, close_done, close_of, return_to, return_of}
 use Rattle.cycle.specs.Arithmetic.{result_in, arithmetic_done, arithmetic_of}
 use Rattle.cycle.specs.Execute.{sources_in, pointer_in, execute_refusal_in, want_in, execute_done, execute_of, execute_store}
-use Rattle.cycle.specs.Answers.{execute_number, location_case, write_case, execute_case}
+use Rattle.cycle.specs.Answers.{location_case, write_case, execute_case}
 use Rattle.cycle.specs.Answers.{top_row, top_frame, bad_pubdata, bad_reverts, late_write, execute_checks}
 use Rattle.cycle.specs.Tells.{write_tells, event_tells, execute_tells}
 
 -- an answer with this number, which tells this where the number is 0
 record Answers (r : Executed) (n : ℕ) (write event : List ℕ) : Type 0 where
-  pub number : execute_number r.answer ≡ n
+  pub number : refusal_number r.answer ≡ n
   pub told : execute_case r.answer ≡ cond (eqb n 0) (write ∷ event ∷ []) []
 
+-- the refusal of a number, where it is one, has it
+abbrev Numbered : ℕ → Type 0
+Numbered k = (k ≡ 0 → ⊥) → paper_number (numbered_refusal k) ≡ k
+
 -- by the first checks, k, and then by those after them, n
-settled_answers : (s : State) (k n m : ℕ) (done : Executed) (write event : List ℕ) → m ≡ cond (eqb k 0) n k → (k ≡ 0 → Answers done n write event)
+settled_answers : (s : State) (k n m : ℕ) (done : Executed) (write event : List ℕ) → Numbered k → m ≡ cond (eqb k 0) n k → (k ≡ 0 → Answers done n write event)
     → Answers (settled k (refused_with s) done) m write event
-settled_answers s k n m done write event e h = rw e (go (eqb k 0) refl)
+settled_answers s k n m done write event same e h = rw e (go (eqb k 0) refl)
   where
     go : (z : Bool) → eqb k 0 ≡ z → Answers (cond z done (refused_with s k)) (cond z n k) write event
     go true q = h (eqb-true k 0 q)
-    go false q = record { number = refl; told = rw q }
+    go false q = record { number = same (eqb-false k 0 q); told = rw q }
 
-done_answers : (s : State) (k : ℕ) (done : Executed) (write event : List ℕ) → execute_number done.answer ≡ 0
+done_answers : (s : State) (k : ℕ) (done : Executed) (write event : List ℕ) → Numbered k → refusal_number done.answer ≡ 0
     → execute_case done.answer ≡ write ∷ event ∷ []
     → Answers (settled k (refused_with s) done) k write event
-done_answers s k done write event d t = settled_answers s k 0 k done write event (grind arith) (λ z. record { number = d; told = t })
+done_answers s k done write event same d t = settled_answers s k 0 k done write event same (grind arith) (λ z. record { number = d; told = t })
 
 either_order : (a b : Bool) → (a || b) ≡ (b || a)
 either_order a b = grind arith
@@ -78,26 +85,27 @@ module _ (settings : Settings) (word : U256) (pointer : Bool) (s : State) (store
 
   nop_answers : Answers (nop_of settings s) (first_of (rest false false false)) nothing nothing
   unfolding nop_of nop_done
-  nop_answers = done_answers s _ _ nothing nothing refl refl
+  nop_answers = done_answers s _ _ nothing nothing (number_first ((late_in settings s refuses 14) ∷ []) tt) refl refl
 
   -- what add and sub write
   abbrev sum_write : U256 → U256 → List ℕ
-  sum_write a b = location_case s.kept.write ++ ((s.timestamp + 3) ∷ value_of (result_in a b s).value ∷ 0 ∷ [])
+  sum_write a b = location_case s.kept.write ++ ((s.timestamp + 3) ∷ value_of (result_in a b s).0 ∷ 0 ∷ [])
 
   sum_answers : (a b : U256) → Answers (arithmetic_of settings a b s) (first_of (rest false false true))
       (cond (is_stored s.kept.write) (sum_write a b) nothing) nothing
   unfolding arithmetic_of arithmetic_done
-  sum_answers a b = rw (either_order (late_in settings s) (late_write s)) (done_answers s _ _ _ nothing refl (written s.kept.write))
+  sum_answers a b = rw (either_order (late_in settings s) (late_write s)) (done_answers s _ _ _ nothing (number_first (((late_write s || late_in settings s) refuses 14) ∷ []) tt) refl (written s.kept.write))
     where
       written : (l : Location)
-          → write_case (write_of l s.timestamp (record { value = (result_in a b s).value; is_pointer = false })) ∷ nothing ∷ []
-          ≡ cond (is_stored l) (location_case l ++ ((s.timestamp + 3) ∷ value_of (result_in a b s).value ∷ 0 ∷ [])) nothing ∷ nothing ∷ []
+          → write_case (write_of l s.timestamp (record { value = (result_in a b s).0; is_pointer = false })) ∷ nothing ∷ []
+          ≡ cond (is_stored l) (location_case l ++ ((s.timestamp + 3) ∷ value_of (result_in a b s).0 ∷ 0 ∷ [])) nothing ∷ nothing ∷ []
       written Location.None = refl
       written (Location.At kind page index) = refl
 
   call_answers : (want : ℕ) → Answers (near_call_of settings want s) (first_of (rest false true false)) nothing (1 ∷ [])
   unfolding near_call_of near_call_done
-  call_answers want = done_answers s _ _ nothing (1 ∷ []) refl refl
+  call_answers want =
+      done_answers s _ _ nothing (1 ∷ []) (number_first ((eqb s.depth settings.depth_limit refuses 9) ∷ (late_in settings s refuses 14) ∷ []) tt) refl refl
 
   -- what a return tells
   abbrev closing : List ℕ
@@ -105,7 +113,16 @@ module _ (settings : Settings) (word : U256) (pointer : Bool) (s : State) (store
 
   close_answers : Answers (close_of settings (top_frame s store) s) (close_refusal_in settings (top_frame s store) s) nothing closing
   unfolding close_of close_done
-  close_answers = done_answers s _ _ nothing closing refl refl
+  close_answers = done_answers s _ _ nothing closing (number_first checks tt) refl refl
+    where
+      checks : List Check
+      checks =
+          (bad_pubdata s store refuses 10)
+          ∷ (bad_reverts s refuses 11)
+          ∷ (ergs_past (top_frame s store).ergs_remaining s.current.ergs_remaining refuses 12)
+          ∷ (is_shrunk (top_frame s store) s.current refuses 13)
+          ∷ (late_in settings s refuses 14)
+          ∷ []
 
   -- by whether the top row is good
   read_answers : ltb (s.depth - 1) (whole_rows store) ≡ true
@@ -115,7 +132,7 @@ module _ (settings : Settings) (word : U256) (pointer : Bool) (s : State) (store
   read_answers e = rw e (go (good_row 16 (top_row s store)))
     where
       go : (good : Bool)
-          → Answers (return_to settings s (cond good (ReadAnswer.Good (top_frame s store)) ReadAnswer.NotGood))
+          → Answers (return_to settings s (cond good (Ok (top_frame s store)) (Err RowError.NotGood)))
           (cond (not good) 8 (close_refusal_in settings (top_frame s store) s)) nothing closing
       go true = close_answers
       go false = record { number = refl; told = refl }
@@ -123,7 +140,8 @@ module _ (settings : Settings) (word : U256) (pointer : Bool) (s : State) (store
   return_answers : bad_store settings s store ≡ false → Answers (return_of settings s store) (first_of (rest true false false)) nothing closing
   unfolding return_of
   return_answers sized =
-      settled_answers s (return_refusal s.current.is_local_frame s.depth) _ _ _ nothing closing (grind arith)
+      settled_answers s (return_refusal s.current.is_local_frame s.depth) _ _ _ nothing closing
+      (number_first ((not s.current.is_local_frame refuses 7) ∷ (is_ended s refuses 8) ∷ []) tt) (grind arith)
       (λ z. read_answers (has_row settings.depth_limit s.depth (length store) sized (grind arith)))
 
   abbrev a : U256
@@ -155,16 +173,25 @@ module _ (settings : Settings) (word : U256) (pointer : Bool) (s : State) (store
       (first_of (execute_checks settings word pointer s store)) (write_tells word pointer s) (event_tells s)
   unfolding execute_of execute_done
   execute_answers =
-      settled_answers s (execute_refusal_in settings word pointer s store) _ _ _ _ _
+      settled_answers s (execute_refusal_in settings word pointer s store) _ _ _ _ _ (number_first checks tt)
       (parts (bad_store settings s store) (out_of_turn addressed s) (not (good_record (record_of s))) (eqb (record_of s).operation 5) (pointer_in word pointer s) _)
       (λ z. chosen (grind arith) (record_of s).operation (grind (arith, good_operation (record_of s))))
+    where
+      checks : List Check
+      checks =
+          (bad_store settings s store refuses 1)
+          ∷ (out_of_turn addressed s refuses 2)
+          ∷ (not (good_record (record_of s)) refuses 3)
+          ∷ (eqb (record_of s).operation 5 refuses 5)
+          ∷ (pointer_in word pointer s refuses 6)
+          ∷ []
 
   -- what execute ensures
   abbrev pub Ensured : Executed → List ℕ → Type 0
   Ensured r after =
       (r ≡ execute_of settings word pointer s store)
       × (after ≡ execute_store settings word pointer s store)
-      × (execute_number r.answer ≡ first_of (execute_checks settings word pointer s store))
+      × (refusal_number r.answer ≡ first_of (execute_checks settings word pointer s store))
       × (execute_case r.answer ≡ execute_tells settings word pointer s store)
 
   pub ensured : (r : Executed) (after : List ℕ) → r ≡ execute_of settings word pointer s store → after ≡ execute_store settings word pointer s store

@@ -1,7 +1,10 @@
 -- Execute's refusal and its choice of the operation. Assumes nothing.
-use Rattle.std.proofs.Common.{◌≡◌, ℕ, ◌<◌, ◌≤◌, Bool, true, false, cond, not, ◌||◌, eqb, List, arith}
+use Rattle.std.proofs.Common.{◌≡◌, ℕ, ◌<◌, ◌≤◌, Bool, true, false, cond, not, ◌||◌, eqb, List, refl, arith}
 use Rattle.u256.specs.declared.U256.{U256}
 use Rattle.u256.specs.U256.{low_of}
+use Rattle.std.specs.Prelude.{Err}
+use Rattle.refusal.specs.declared.Refusal.{Refusal}
+use Rattle.refusal.specs.Refusal.{numbered_refusal}
 use Rattle.frame.specs.Kernel.{kernel_mode}
 use Rattle.rules.specs.declared.Settings.{Settings}
 use Rattle.rules.specs.declared.Sources.{Sources}
@@ -11,7 +14,7 @@ use Rattle.cycle.specs.declared.State.{State}
 use Rattle.cycle.specs.declared.Executed.{Executed}
 use Rattle.cycle.specs.State.{bad_store}
 use Rattle.cycle.specs.Operands.{record_of}
-use Rattle.cycle.specs.Helpers.{refused_with, nop_of}
+use Rattle.cycle.specs.Helpers.{nop_of}
 use Rattle.cycle.specs.NearCall.{near_call_of, near_call_store}
 use Rattle.cycle.specs.Ret.{return_of}
 use Rattle.cycle.specs.Arithmetic.{arithmetic_of}
@@ -34,10 +37,17 @@ call_tests o e = grind arith
 pub other_tests : (o : ℕ) → (o ≡ 0 → ⊥) → (o ≡ 3 → ⊥) → 3 ≤ o → Tests o false false false
 other_tests o n m h = grind arith
 
--- some check holds, and n is the number of the first: the last is not looked at
-some : (a b c d e : Bool) (n : ℕ) → (a || b || c || d || e) ≡ true → n ≡ cond a 1 (cond b 2 (cond c 3 (cond d 5 6)))
-    → (cond a 1 (cond b 2 (cond c 3 (cond d 5 (cond e 6 0)))) ≡ n) × (eqb n 0 ≡ false)
-some a b c d e n t en = grind arith
+-- some check holds, and r is the refusal of the first: the last is not looked at
+some : (a b c d e : Bool) → (a || b || c || d || e) ≡ true
+    → (cond a Refusal.Sizes (cond b Refusal.Turn (cond c Refusal.Record (cond d Refusal.Operation Refusal.Pointer)))
+    ≡ numbered_refusal (cond a 1 (cond b 2 (cond c 3 (cond d 5 (cond e 6 0))))))
+    × (eqb (cond a 1 (cond b 2 (cond c 3 (cond d 5 (cond e 6 0))))) 0 ≡ false)
+some true b c d e t = (refl, refl)
+some false true c d e t = (refl, refl)
+some false false true d e t = (refl, refl)
+some false false false true e t = (refl, refl)
+some false false false false true t = (refl, refl)
+some false false false false false t = absurd (cc)
 
 none : (a b c d e : Bool) → (a || b || c || d || e) ≡ false → cond {A = ℕ} a 1 (cond b 2 (cond c 3 (cond d 5 (cond e 6 0)))) ≡ 0
 none a b c d e z = grind arith
@@ -51,13 +61,14 @@ module _ (settings : Settings) (word : U256) (pointer : Bool) (s : State) (store
   abbrev some_holds : Bool
   some_holds = sizes || not (eqb s.stage 3) || not good || eqb (record_of s).operation 5 || held
 
-  pub refused : some_holds ≡ true → (n : ℕ)
-      → n ≡ cond sizes 1 (cond (not (eqb s.stage 3)) 2 (cond (not good) 3 (cond (eqb (record_of s).operation 5) 5 6)))
-      → (r : Executed) → r ≡ refused_with s n → Ensured settings word pointer s store r store
+  pub refused : some_holds ≡ true → (q : Refusal)
+      → q
+      ≡ cond sizes Refusal.Sizes (cond (not (eqb s.stage 3)) Refusal.Turn (cond (not good) Refusal.Record (cond (eqb (record_of s).operation 5) Refusal.Operation Refusal.Pointer)))
+      → (r : Executed) → r ≡ record { state = s; answer = Err q } → Ensured settings word pointer s store r store
   unfolding execute_of execute_store
-  refused t n en r e =
-      let k = some sizes (not (eqb s.stage 3)) (not good) (eqb (record_of s).operation 5) held n t en in
-      ensured settings word pointer s store r store (rw (← es, ← ez, ← eg, ← ek, ← eh, k.0, k.1) e) (rw (← es, ← ez, ← eg, ← ek, ← eh, k.0, k.1))
+  refused t q eq r e =
+      let k = some sizes (not (eqb s.stage 3)) (not good) (eqb (record_of s).operation 5) held t in
+      ensured settings word pointer s store r store (rw (← es, ← ez, ← eg, ← ek, ← eh, k.1, ← k.0, ← eq) e) (rw (← es, ← ez, ← eg, ← ek, ← eh, k.1))
 
   -- by the tests
   pub done : some_holds ≡ false → (nop sum call : Bool) → Tests (record_of s).operation nop sum call → (r : Executed) (after : List ℕ)

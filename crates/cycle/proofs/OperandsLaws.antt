@@ -1,13 +1,19 @@
 -- The stack page that operands looks at, and what it tells of the places. Assumes nothing.
-use Rattle.std.proofs.Common.{◌≡◌, ℕ, ◌+◌, ◌%◌, ◌^◌, List, [], ◌∷◌, false, arith, mod-eq_of_lt}
+use Rattle.std.proofs.Common.{◌≡◌, ℕ, ◌+◌, ◌%◌, ◌^◌, List, [], ◌∷◌, Bool, true, false, cond, ◌||◌, not, eqb, refl, ap, arith, mod-eq_of_lt}
+use Rattle.std.specs.Prelude.{Err}
+use Rattle.rules.specs.declared.Settings.{Settings}
+use Rattle.rules.specs.Record.{good_record}
+use Rattle.refusal.specs.declared.Refusal.{Refusal}
+use Rattle.refusal.specs.Refusal.{paper_number, numbered_refusal}
 use Rattle.u256.specs.declared.U256.{U256}
 use Rattle.rules.specs.declared.Record.{Record}
 use Rattle.rules.specs.Address.{lacks_stack_page, source_at, destination_at, places_of}
 use Rattle.rules.proofs.AddressLaws.{places_page}
 use Rattle.cycle.specs.declared.State.{State}
-use Rattle.cycle.specs.Operands.{places_in}
+use Rattle.cycle.specs.State.{bad_store}
+use Rattle.cycle.specs.Operands.{record_of, places_in, operands_refusal, operands_of}
 use Rattle.cycle.specs.Answers.{location_case}
-use Rattle.cycle.specs.Tells.{source_tells, destination_tells}
+use Rattle.cycle.specs.Tells.{source_tells, destination_tells, operands_tells}
 
 -- a stack page that is looked at has 32 bits
 pub places_exact : (w : ℕ) (r : Record) (registers : List U256) (base code_page sp : ℕ) → lacks_stack_page r base ≡ false
@@ -18,3 +24,24 @@ pub places_told : (w : ℕ) (s : State)
     → location_case (places_in w s).source ∷ location_case (places_in w s).destination ∷ [] ≡ source_tells w s ∷ destination_tells w s ∷ []
 unfolding places_of source_at destination_at
 places_told w s = grind arith
+
+-- some check holds: the refusal of the first, its number, and that it is one
+first : (a b c d : Bool) → (a || b || c || d) ≡ true
+    → (cond a Refusal.Sizes (cond b Refusal.Turn (cond c Refusal.Record Refusal.Above32Bits)) ≡ numbered_refusal (cond a 1 (cond b 2 (cond c 3 (cond d 14 0)))))
+    × (paper_number (cond a Refusal.Sizes (cond b Refusal.Turn (cond c Refusal.Record Refusal.Above32Bits))) ≡ cond a 1 (cond b 2 (cond c 3 (cond d 14 0))))
+    × (eqb (cond a 1 (cond b 2 (cond c 3 (cond d 14 0)))) 0 ≡ false)
+first true b c d t = (refl, refl, refl)
+first false true c d t = (refl, refl, refl)
+first false false true d t = (refl, refl, refl)
+first false false false true t = (refl, refl, refl)
+first false false false false t = absurd (cc)
+
+pub refused : (settings : Settings) (s : State) (store : List ℕ) (sizes : Bool) → sizes ≡ bad_store settings s store → (good : Bool) → good ≡ good_record (record_of s)
+    → (lacking : Bool) → lacking ≡ lacks_stack_page (record_of s) s.current.base_memory_page → (sizes || not (eqb s.stage 2) || not good || lacking) ≡ true
+    → (q : Refusal) → q ≡ cond sizes Refusal.Sizes (cond (not (eqb s.stage 2)) Refusal.Turn (cond (not good) Refusal.Record Refusal.Above32Bits))
+    → (kept : State) → kept ≡ s
+    → (record { state = kept; answer = Err q } ≡ operands_of settings s store) × (paper_number q ≡ operands_refusal settings s store) × ([] ≡ operands_tells settings s store)
+unfolding operands_of
+refused settings s store sizes ez good eg lacking el t q eq kept ek =
+    let k = first sizes (not (eqb s.stage 2)) (not good) lacking t in
+    rw (← ez, ← eg, ← el, k.2, ek, eq) (ap (λ (r : Refusal). record { state = s; answer = Err r }) k.0, k.1, refl)

@@ -1,11 +1,11 @@
--- The answers of the stages, case by case: document 01's number of a refusal, 0 where it is none; what a finished answer tells, in numbers; and all refusals of
--- execute in one list. "Checks run by number." Tells.antt says which numbers are to be told.
-use Rattle.std.specs.Prelude.{ℕ, ◌+◌, ◌-◌, ◌^◌, Bool, not, ◌&&◌, ◌||◌, List, [], ◌∷◌, ◌==◌, nat_eq, nat_le}
+-- The answers of the stages, case by case: what a finished answer tells, in numbers; and all refusals of execute in one list. "Checks run by number." Tells.antt says which numbers are to be told.
+use Rattle.std.specs.Prelude.{ℕ, ◌+◌, ◌-◌, ◌^◌, Bool, not, ◌&&◌, ◌||◌, List, [], ◌∷◌, Option, None, Some, Result, Ok, Err, ◌==◌, nat_eq, nat_le}
 use mir.Val.{bool_byte}
 use Rattle.u256.specs.declared.U256.{U256}
 use Rattle.u256.specs.U256.{value_of}
 use Rattle.frame.specs.declared.Frame.{Frame}
-use Rattle.frame.specs.Refusal.{Check, ◌refuses◌}
+use Rattle.refusal.specs.declared.Refusal.{Refusal}
+use Rattle.refusal.specs.Refusal.{Check, ◌refuses◌}
 use Rattle.frame.specs.Row.{frame_of, good_row}
 use Rattle.frame.specs.Store.{row_at}
 use Rattle.rules.specs.declared.Settings.{Settings}
@@ -25,47 +25,25 @@ use Rattle.cycle.specs.Helpers.{late_in, is_stored}
 use Rattle.cycle.specs.Ret.{is_ok}
 use Rattle.cycle.specs.Execute.{pointer_in}
 
--- fetch: "64 bits of code, or exception (pending), or nop (ended)"
-abbrev pub fetch_number : FetchAnswer → ℕ
-fetch_number (FetchAnswer.Code bits) = 0
-fetch_number FetchAnswer.Exception = 0
-fetch_number FetchAnswer.Nop = 0
-fetch_number (FetchAnswer.Refused n) = n
-
--- decode: "The answer gives the flags and the charge."
-abbrev pub decode_number : DecodeAnswer → ℕ
-decode_number (DecodeAnswer.Done charge errors) = 0
-decode_number (DecodeAnswer.Refused n) = n
-
--- operands: "either no location or a memory kind, page and index", of the source and of the destination
-abbrev pub operands_number : OperandsAnswer → ℕ
-operands_number (OperandsAnswer.Done source destination) = 0
-operands_number (OperandsAnswer.Refused n) = n
-
--- execute: "A write carries time plus 3. Events: frame opened, frame closed with its panicked bit."
-abbrev pub execute_number : ExecuteAnswer → ℕ
-execute_number (ExecuteAnswer.Done write event) = 0
-execute_number (ExecuteAnswer.Refused n) = n
-
 -- ---- what a finished answer tells, by case: the number of the case, then its values; a refusal tells nothing but its number
 -- "64 bits of code, or exception (pending), or nop (ended)": 0, 1 and 2
-abbrev pub fetch_case : FetchAnswer → List ℕ
-fetch_case (FetchAnswer.Code bits) = 0 ∷ bits ∷ []
-fetch_case FetchAnswer.Exception = 1 ∷ []
-fetch_case FetchAnswer.Nop = 2 ∷ []
-fetch_case (FetchAnswer.Refused n) = []
+abbrev pub fetch_case : Result FetchAnswer Refusal → List ℕ
+fetch_case (Ok (FetchAnswer.Code bits)) = 0 ∷ bits ∷ []
+fetch_case (Ok FetchAnswer.Exception) = 1 ∷ []
+fetch_case (Ok FetchAnswer.Nop) = 2 ∷ []
+fetch_case (Err refusal) = []
 
 -- "The answer gives the flags and the charge": explicit panic, NOT_ENOUGH_ERGS, kernel only, static, depth equal to limit, then the charge
-abbrev pub decode_case : DecodeAnswer → List ℕ
-decode_case (DecodeAnswer.Done charge errors) =
-    bool_byte errors.invalid_opcode
-    ∷ bool_byte errors.not_enough_ergs
-    ∷ bool_byte errors.privilaged_access_not_from_kernel
-    ∷ bool_byte errors.write_in_static_context
-    ∷ bool_byte errors.callstack_is_full
-    ∷ charge
+abbrev pub decode_case : Result DecodeAnswer Refusal → List ℕ
+decode_case (Ok answer) =
+    bool_byte answer.errors.invalid_opcode
+    ∷ bool_byte answer.errors.not_enough_ergs
+    ∷ bool_byte answer.errors.privilaged_access_not_from_kernel
+    ∷ bool_byte answer.errors.write_in_static_context
+    ∷ bool_byte answer.errors.callstack_is_full
+    ∷ answer.charge
     ∷ []
-decode_case (DecodeAnswer.Refused n) = []
+decode_case (Err refusal) = []
 
 -- "either no location or a memory kind, page and index": 0, or 1 and these; memory kinds 1 stack, 2 code
 abbrev pub location_case : Location → List ℕ
@@ -73,25 +51,25 @@ location_case Location.None = 0 ∷ []
 location_case (Location.At kind page index) = 1 ∷ kind ∷ page ∷ index ∷ []
 
 -- "A write carries time plus 3": 0 where nothing is written, or 1 and the location, the time, the value and its pointer bit
-abbrev pub write_case : Write → List ℕ
-write_case Write.None = 0 ∷ []
-write_case (Write.At kind page index time written) = 1 ∷ kind ∷ page ∷ index ∷ time ∷ value_of written.value ∷ bool_byte written.is_pointer ∷ []
+abbrev pub write_case : Option Write → List ℕ
+write_case None = 0 ∷ []
+write_case (Some w) = 1 ∷ w.memory_type ∷ w.page ∷ w.index ∷ w.time ∷ value_of w.value.value ∷ bool_byte w.value.is_pointer ∷ []
 
 -- "Events: frame opened, frame closed with its panicked bit": 1 and 2, 0 where there is none
-abbrev pub event_case : Event → List ℕ
-event_case Event.None = 0 ∷ []
-event_case Event.Opened = 1 ∷ []
-event_case (Event.Closed panicked) = 2 ∷ bool_byte panicked ∷ []
+abbrev pub event_case : Option Event → List ℕ
+event_case None = 0 ∷ []
+event_case (Some Event.Opened) = 1 ∷ []
+event_case (Some (Event.Closed panicked)) = 2 ∷ bool_byte panicked ∷ []
 
 -- the source and the destination
-abbrev pub operands_case : OperandsAnswer → List (List ℕ)
-operands_case (OperandsAnswer.Done source destination) = location_case source ∷ location_case destination ∷ []
-operands_case (OperandsAnswer.Refused n) = []
+abbrev pub operands_case : Result OperandsAnswer Refusal → List (List ℕ)
+operands_case (Ok answer) = location_case answer.source ∷ location_case answer.destination ∷ []
+operands_case (Err refusal) = []
 
 -- the write and the event
-abbrev pub execute_case : ExecuteAnswer → List (List ℕ)
-execute_case (ExecuteAnswer.Done write event) = write_case write ∷ event_case event ∷ []
-execute_case (ExecuteAnswer.Refused n) = []
+abbrev pub execute_case : Result ExecuteAnswer Refusal → List (List ℕ)
+execute_case (Ok answer) = write_case answer.write ∷ event_case answer.event ∷ []
+execute_case (Err refusal) = []
 
 -- ---- the refusals of execute
 -- operations 1 add and 2 sub, 3 near call, 4 return

@@ -1,16 +1,13 @@
 -- Add and sub. The result goes to the write location, or to register dst0 where there is none (0: nowhere), with its pointer bit off. Document 01: "A write carries
 -- time plus 3"; refusal 14, "time of a memory write".
-use Rattle.std.specs.Prelude.{ℕ, ◌+◌, ◌^◌, Bool, false, cond, ◌&&◌, ◌||◌, [], ◌∷◌, nat_le}
+use Rattle.std.specs.Prelude.{ℕ, ◌+◌, ◌^◌, Bool, false, cond, ◌&&◌, ◌||◌, [], ◌∷◌, None, Ok, nat_le}
 use Rattle.u256.specs.declared.U256.{U256}
-use Rattle.u256.specs.declared.Overflowing.{Overflowing}
-use Rattle.frame.specs.Refusal.{first_of, ◌refuses◌}
+use Rattle.refusal.specs.Refusal.{first_of, ◌refuses◌}
 use Rattle.rules.specs.declared.Settings.{Settings}
 use Rattle.rules.specs.Arithmetic.{result_of, flags_after}
 use Rattle.rules.specs.Time.{next_pc}
 use Rattle.cycle.specs.declared.State.{State}
-use Rattle.cycle.specs.declared.Event.{Event}
 use Rattle.cycle.specs.declared.Executed.{Executed}
-use Rattle.cycle.specs.declared.ExecuteAnswer.{ExecuteAnswer}
 use Rattle.cycle.specs.State.{is_ended, settled}
 use Rattle.cycle.specs.Effects.{moved_state, written_state}
 use Rattle.cycle.specs.Helpers.{late_in, finished_in, refused_with, is_stored, write_of}
@@ -21,7 +18,7 @@ arithmetic_refusal late stored time = first_of (((late || stored && nat_le (2 ^ 
 abbrev pub arithmetic_refusal_in : Settings → State → ℕ
 arithmetic_refusal_in settings s = arithmetic_refusal (late_in settings s) (is_stored s.kept.write) s.timestamp
 
-abbrev pub result_in : U256 → U256 → State → Overflowing
+abbrev pub result_in : U256 → U256 → State → U256 × Bool
 result_in a b s = result_of s.kept.instruction.operation a b
 
 unfoldable pub arithmetic_done : Settings → U256 → U256 → State → Executed
@@ -30,8 +27,12 @@ arithmetic_done settings a b s = record {
       written_state (moved_state (finished_in settings s) (next_pc 16 s.current.pc (is_ended s)))
       (flags_after s.kept.instruction.set_flags s.flags (result_in a b s))
       (cond (is_stored s.kept.write) 0 s.kept.instruction.dst0)
-      (result_in a b s).value;
-  answer = ExecuteAnswer.Done (write_of s.kept.write s.timestamp (record { value = (result_in a b s).value; is_pointer = false })) Event.None;
+      (result_in a b s).0;
+  answer =
+      Ok (record {
+        write = write_of s.kept.write s.timestamp (record { value = (result_in a b s).0; is_pointer = false });
+        event = None;
+      });
 }
 
 unfoldable pub arithmetic_of : Settings → U256 → U256 → State → Executed

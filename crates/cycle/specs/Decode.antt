@@ -1,8 +1,8 @@
 -- Decode. Document 01: "Price is 0 when ended. Price above ergs: ergs become 0 and NOT_ENOUGH_ERGS is set." "Some flag set: the panic record is kept.
 -- Otherwise condition false: the nop record. The delayed changes show from here. The answer gives the flags and the charge." Demand 3: "A charge is the smaller of
 -- the price and the ergs held."
-use Rattle.std.specs.Prelude.{ℕ, ◌-◌, min, false, cond, List, [], ◌∷◌}
-use Rattle.frame.specs.Refusal.{first_of, ◌refuses◌}
+use Rattle.std.specs.Prelude.{ℕ, ◌-◌, min, false, cond, List, [], ◌∷◌, Ok, Err}
+use Rattle.refusal.specs.Refusal.{first_of, ◌refuses◌, numbered_refusal}
 use Rattle.frame.specs.Fields.{with_ergs}
 use Rattle.rules.specs.declared.Settings.{Settings}
 use Rattle.rules.specs.declared.Record.{Record}
@@ -16,7 +16,6 @@ use Rattle.rules.specs.Charge.{price_of, error_flags, any_error}
 use Rattle.rules.specs.Condition.{condition_holds}
 use Rattle.cycle.specs.declared.State.{State}
 use Rattle.cycle.specs.declared.Decoded.{Decoded}
-use Rattle.cycle.specs.declared.DecodeAnswer.{DecodeAnswer}
 use Rattle.cycle.specs.State.{fetched, decoded, is_ended, bad_store, out_of_turn, settled}
 
 -- the flags that the plain record sets
@@ -68,9 +67,9 @@ decoded_state s ergs instruction = record {
 unfoldable pub decode_done : Settings → Records → State → Decoded
 decode_done settings records s = record {
   state = decoded_state s (s.current.ergs_remaining - price_in records s) (kept_of settings records s);
-  answer = DecodeAnswer.Done (charge_in records s) (errors_of settings records s);
+  answer = Ok (record { charge = charge_in records s; errors = errors_of settings records s });
 }
 
 unfoldable pub decode_of : Settings → Records → State → List ℕ → Decoded
 decode_of settings records s store =
-    settled (decode_refusal settings records s store) (λ n. record { state = s; answer = DecodeAnswer.Refused n }) (decode_done settings records s)
+    settled (decode_refusal settings records s store) (λ n. record { state = s; answer = Err (numbered_refusal n) }) (decode_done settings records s)

@@ -4,7 +4,7 @@ use Rattle.std.specs.Prelude.{ℕ, Bool, cond, not, ◌||◌, List, [], ◌∷�
 use Rattle.u256.specs.declared.U256.{U256}
 use Rattle.u256.specs.U256.{low_of}
 use Rattle.frame.specs.Kernel.{kernel_mode}
-use Rattle.frame.specs.Refusal.{first_of, ◌refuses◌}
+use Rattle.refusal.specs.Refusal.{first_of, ◌refuses◌}
 use Rattle.rules.specs.declared.Settings.{Settings}
 use Rattle.rules.specs.declared.Sources.{Sources}
 use Rattle.rules.specs.Record.{good_record}

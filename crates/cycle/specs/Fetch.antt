@@ -1,8 +1,8 @@
 -- Fetch. Document 01: "A query says whether a code read is wanted, and from which page and index: page or super pc changed, and not ended. It reads the state alone
 -- and never refuses. Fetch takes that word, not looked at when none was wanted." "The answer is 64 bits of code, or exception (pending), or nop (ended)."
-use Rattle.std.specs.Prelude.{ℕ, Bool, cond, ◌&&◌, List, [], ◌∷◌}
+use Rattle.std.specs.Prelude.{ℕ, Bool, cond, ◌&&◌, List, [], ◌∷◌, Ok, Err}
 use Rattle.u256.specs.declared.U256.{U256}
-use Rattle.frame.specs.Refusal.{first_of, ◌refuses◌}
+use Rattle.refusal.specs.Refusal.{first_of, ◌refuses◌, numbered_refusal}
 use Rattle.rules.specs.declared.Settings.{Settings}
 use Rattle.rules.specs.declared.Location.{Location}
 use Rattle.registers.specs.Registers.{empty_word}
@@ -61,9 +61,9 @@ fetched_state s wanted word = record {
 unfoldable pub fetch_done : State → U256 → Fetched
 fetch_done s word = record {
   state = fetched_state s (code_wanted s) (cond (code_wanted s) word empty_word);
-  answer = code_answer (is_ended s) s.pending_exception (code_bits (code_word s word) (sub_pc s.current.pc));
+  answer = Ok (code_answer (is_ended s) s.pending_exception (code_bits (code_word s word) (sub_pc s.current.pc)));
 }
 
 unfoldable pub fetch_of : Settings → U256 → State → List ℕ → Fetched
 fetch_of settings word s store =
-    settled (fetch_refusal settings s store) (λ n. record { state = s; answer = FetchAnswer.Refused n }) (fetch_done s word)
+    settled (fetch_refusal settings s store) (λ n. record { state = s; answer = Err (numbered_refusal n) }) (fetch_done s word)

@@ -1,15 +1,13 @@
 -- What the operations of execute share, and nop. Document 01: "Nop sets pc only (from the specification)"; "A write carries time plus 3."
-use Rattle.std.specs.Prelude.{ℕ, ◌+◌, Bool, true, false, [], ◌∷◌}
-use Rattle.frame.specs.Refusal.{first_of, ◌refuses◌}
+use Rattle.std.specs.Prelude.{ℕ, ◌+◌, Bool, true, false, [], ◌∷◌, Option, None, Some, Ok, Err}
+use Rattle.refusal.specs.Refusal.{first_of, ◌refuses◌, numbered_refusal}
 use Rattle.rules.specs.declared.Settings.{Settings}
 use Rattle.rules.specs.declared.Location.{Location}
 use Rattle.rules.specs.declared.PrimitiveValue.{PrimitiveValue}
 use Rattle.rules.specs.Time.{next_pc, time_after, is_late}
 use Rattle.cycle.specs.declared.State.{State}
 use Rattle.cycle.specs.declared.Write.{Write}
-use Rattle.cycle.specs.declared.Event.{Event}
 use Rattle.cycle.specs.declared.Executed.{Executed}
-use Rattle.cycle.specs.declared.ExecuteAnswer.{ExecuteAnswer}
 use Rattle.cycle.specs.State.{is_ended, settled}
 use Rattle.cycle.specs.Effects.{finished_state, moved_state}
 
@@ -22,20 +20,20 @@ abbrev pub finished_in : Settings → State → State
 finished_in settings s = finished_state s (time_after s.timestamp settings.time_step (is_ended s)) (s.monotonic_cycle_counter + 1)
 
 abbrev pub refused_with : State → ℕ → Executed
-refused_with s n = record { state = s; answer = ExecuteAnswer.Refused n }
+refused_with s n = record { state = s; answer = Err (numbered_refusal n) }
 
 abbrev pub is_stored : Location → Bool
 is_stored Location.None = false
 is_stored (Location.At kind page index) = true
 
-abbrev pub write_of : Location → ℕ → PrimitiveValue → Write
-write_of Location.None time value = Write.None
-write_of (Location.At kind page index) time value = Write.At kind page index (time + 3) value
+abbrev pub write_of : Location → ℕ → PrimitiveValue → Option Write
+write_of Location.None time value = None
+write_of (Location.At kind page index) time value = Some (record { memory_type = kind; page = page; index = index; time = time + 3; value = value })
 
 unfoldable pub nop_done : Settings → State → Executed
 nop_done settings s = record {
   state = moved_state (finished_in settings s) (next_pc 16 s.current.pc (is_ended s));
-  answer = ExecuteAnswer.Done Write.None Event.None;
+  answer = Ok (record { write = None; event = None });
 }
 
 abbrev pub nop_refusal : Settings → State → ℕ

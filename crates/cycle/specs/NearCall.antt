@@ -1,17 +1,15 @@
 -- Near call. Document 01: "Near call wants the low 32 bits of src0 times the multiplier"; refusal 9, "near call at depth equal to limit". The caller is saved as the
 -- first free row, the flags are cleared.
-use Rattle.std.specs.Prelude.{ℕ, ◌+◌, ◌-◌, Bool, cond, List, [], ◌∷◌, ◌==◌}
+use Rattle.std.specs.Prelude.{ℕ, ◌+◌, ◌-◌, Bool, cond, List, [], ◌∷◌, None, Some, Ok, ◌==◌}
 use Rattle.frame.specs.declared.Frame.{Frame}
-use Rattle.frame.specs.Refusal.{first_of, ◌refuses◌}
+use Rattle.refusal.specs.Refusal.{first_of, ◌refuses◌}
 use Rattle.frame.specs.Store.{saved_store}
 use Rattle.rules.specs.declared.Settings.{Settings}
 use Rattle.rules.specs.NearCall.{wanted_ergs, passed_ergs, caller_of, opened_of}
 use Rattle.rules.specs.Time.{next_pc}
 use Rattle.cycle.specs.declared.State.{State}
-use Rattle.cycle.specs.declared.Write.{Write}
 use Rattle.cycle.specs.declared.Event.{Event}
 use Rattle.cycle.specs.declared.Executed.{Executed}
-use Rattle.cycle.specs.declared.ExecuteAnswer.{ExecuteAnswer}
 use Rattle.cycle.specs.State.{is_ended, settled}
 use Rattle.cycle.specs.Effects.{no_flags, switched_state}
 use Rattle.cycle.specs.Helpers.{late_in, finished_in, refused_with}
@@ -39,7 +37,7 @@ near_call_done settings want s = record {
       (s.depth + 1)
       no_flags
       s.pubdata_revert_counter;
-  answer = ExecuteAnswer.Done Write.None Event.Opened;
+  answer = Ok (record { write = None; event = Some Event.Opened });
 }
 
 unfoldable pub near_call_of : Settings → ℕ → State → Executed

@@ -1,7 +1,7 @@
 -- Operands. Document 01: "Source first, then destination on the changed sp." "Stack page is base plus 1. Nop reads nothing but moves sp." The answer is where the
 -- source is read, and where the destination is to be written.
-use Rattle.std.specs.Prelude.{ℕ, ◌+◌, not, List, [], ◌∷◌}
-use Rattle.frame.specs.Refusal.{first_of, ◌refuses◌}
+use Rattle.std.specs.Prelude.{ℕ, ◌+◌, not, List, [], ◌∷◌, Ok, Err}
+use Rattle.refusal.specs.Refusal.{first_of, ◌refuses◌, numbered_refusal}
 use Rattle.frame.specs.Fields.{with_sp}
 use Rattle.rules.specs.declared.Settings.{Settings}
 use Rattle.rules.specs.declared.Record.{Record}
@@ -11,7 +11,6 @@ use Rattle.rules.specs.Record.{good_record}
 use Rattle.rules.specs.Address.{lacks_stack_page, places_of}
 use Rattle.cycle.specs.declared.State.{State}
 use Rattle.cycle.specs.declared.Addressed.{Addressed}
-use Rattle.cycle.specs.declared.OperandsAnswer.{OperandsAnswer}
 use Rattle.cycle.specs.State.{decoded, addressed, bad_store, out_of_turn, settled}
 
 abbrev pub record_of : State → Record
@@ -57,9 +56,9 @@ addressed_state s sp write = record {
 unfoldable pub operands_done : ℕ → State → Addressed
 operands_done w s = record {
   state = addressed_state s (places_in w s).sp (places_in w s).destination;
-  answer = OperandsAnswer.Done (places_in w s).source (places_in w s).destination;
+  answer = Ok (record { source = (places_in w s).source; destination = (places_in w s).destination });
 }
 
 unfoldable pub operands_of : Settings → State → List ℕ → Addressed
 operands_of settings s store =
-    settled (operands_refusal settings s store) (λ n. record { state = s; answer = OperandsAnswer.Refused n }) (operands_done 16 s)
+    settled (operands_refusal settings s store) (λ n. record { state = s; answer = Err (numbered_refusal n) }) (operands_done 16 s)

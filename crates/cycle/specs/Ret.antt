@@ -1,19 +1,17 @@
 -- Return from a local frame. Document 01: "A local return of any kind, panic too, adds all the ergs the closed frame holds to its caller's"; refusals 7, "return from a
 -- frame that is not local", and 8, "return at depth 0, or the top row is not good". The flags are cleared; a panic then sets overflow.
-use Rattle.std.specs.Prelude.{ℕ, ◌+◌, ◌-◌, Bool, false, not, List, [], ◌∷◌, ◌==◌, nat_eq}
+use Rattle.std.specs.Prelude.{ℕ, ◌+◌, ◌-◌, Bool, false, not, List, [], ◌∷◌, None, Some, Result, Ok, Err, ◌==◌, nat_eq}
 use Rattle.frame.specs.declared.Frame.{Frame}
 use Rattle.frame.specs.declared.PubdataCost.{PubdataCost}
-use Rattle.frame.specs.declared.ReadAnswer.{ReadAnswer}
-use Rattle.frame.specs.Refusal.{first_of, ◌refuses◌}
-use Rattle.frame.specs.Store.{read_of, read_number}
+use Rattle.frame.specs.declared.RowError.{RowError}
+use Rattle.refusal.specs.Refusal.{first_of, ◌refuses◌, paper_number}
+use Rattle.frame.specs.Store.{refusal_of, read_of}
 use Rattle.rules.specs.declared.Settings.{Settings}
 use Rattle.rules.specs.declared.Flags.{Flags}
 use Rattle.rules.specs.Ret.{counter_after, cost_of, close_refusal, resumed_of}
 use Rattle.cycle.specs.declared.State.{State}
-use Rattle.cycle.specs.declared.Write.{Write}
 use Rattle.cycle.specs.declared.Event.{Event}
 use Rattle.cycle.specs.declared.Executed.{Executed}
-use Rattle.cycle.specs.declared.ExecuteAnswer.{ExecuteAnswer}
 use Rattle.cycle.specs.State.{settled}
 use Rattle.cycle.specs.Effects.{switched_state}
 use Rattle.cycle.specs.Helpers.{late_in, finished_in, refused_with}
@@ -43,17 +41,16 @@ close_done settings caller s = record {
       (s.depth - 1)
       (panic_flags (s.kept.instruction.return_kind == 2))
       (reverts_in s);
-  answer = ExecuteAnswer.Done Write.None (Event.Closed (not (is_ok s)));
+  answer = Ok (record { write = None; event = Some (Event.Closed (not (is_ok s))) });
 }
 
 unfoldable pub close_of : Settings → Frame → State → Executed
 close_of settings caller s = settled (close_refusal_in settings caller s) (refused_with s) (close_done settings caller s)
 
 -- by what the top row holds
-abbrev pub return_to : Settings → State → ReadAnswer → Executed
-return_to settings s (ReadAnswer.Good caller) = close_of settings caller s
-return_to settings s ReadAnswer.Missing = refused_with s (read_number ReadAnswer.Missing)
-return_to settings s ReadAnswer.NotGood = refused_with s (read_number ReadAnswer.NotGood)
+abbrev pub return_to : Settings → State → Result Frame RowError → Executed
+return_to settings s (Ok caller) = close_of settings caller s
+return_to settings s (Err error) = refused_with s (paper_number (refusal_of error))
 
 unfoldable pub return_of : Settings → State → List ℕ → Executed
 return_of settings s store =

@@ -5,7 +5,7 @@ use Rattle.u256.specs.declared.U256.{U256}
 use Rattle.u256.specs.U256.{value_of}
 use Rattle.u256.specs.Word.{wrapping_difference}
 use Rattle.frame.specs.Kernel.{kernel_mode}
-use Rattle.frame.specs.Refusal.{first_of}
+use Rattle.refusal.specs.Refusal.{first_of}
 use Rattle.registers.specs.Registers.{register_of}
 use Rattle.rules.specs.declared.Settings.{Settings}
 use Rattle.rules.specs.declared.Records.{Records}
@@ -85,7 +85,7 @@ abbrev pub write_tells : U256 → Bool → State → List ℕ
 write_tells word pointer s =
     cond (is_arithmetic s && is_stored s.kept.write)
     (location_case s.kept.write
-    ++ ((s.timestamp + 3) ∷ value_of (result_in (sources_in word pointer s).src0.value (sources_in word pointer s).src1.value s).value ∷ 0 ∷ []))
+    ++ ((s.timestamp + 3) ∷ value_of (result_in (sources_in word pointer s).src0.value (sources_in word pointer s).src1.value s).0 ∷ 0 ∷ []))
     (0 ∷ [])
 
 -- a near call opens a frame, a return closes one; revert and panic count as panicked

@@ -1,17 +1,17 @@
 // Add and sub, after the Rust's `add.rs`, `sub.rs` and `perform_dst0_update`.
-ghost use Rattle.std.specs.Prelude.{◌≡◌, if◌then◌else◌};
-ghost use Rattle.cycle.specs.Arithmetic.{arithmetic_refusal, arithmetic_of};
+ghost use Rattle.std.specs.Prelude.{◌≡◌, ◌+◌, ◌^◌, ◌&&◌, nat_le, if◌then◌else◌};
+ghost use Rattle.cycle.specs.Arithmetic.{arithmetic_of};
 
-use crate::{Event, ExecuteAnswer, Executed, State, helpers};
+use crate::{ExecuteAnswer, Executed, State, helpers};
+use refusal::Refusal;
 use rules::{PrimitiveValue, Settings, arithmetic, time};
 use u256::U256;
 
-// Refusal 14, the time of a memory write among it.
-fn arithmetic_refusal(late: bool, stored: bool, time: u32) -> u32
-    ensures { result ≡ arithmetic_refusal late stored time }
+// Refusal 14 for the time of a memory write.
+fn is_late_write(stored: bool, time: u32) -> bool
+    ensures { result ≡ (stored && nat_le (2 ^ 32) (time + 3)) }
 {
-    let bad = late | (stored & (0xffff_ffff < (time as u64) + 3));
-    if bad { 14 } else { 0 }
+    stored & time.checked_add(3).is_none()
 }
 
 // No register where the result goes to memory.
@@ -30,12 +30,11 @@ impl State {
         let instruction = kept.instruction;
         let location = kept.write;
         let stored = helpers::is_stored(location);
-        let n = arithmetic_refusal(self.is_late(settings), stored, self.timestamp);
-        if n != 0 {
-            return self.refused(n);
+        if self.is_late(settings) | is_late_write(stored, self.timestamp) {
+            return self.refused(Refusal::Above32Bits);
         }
         let result = arithmetic::result(instruction.operation, a, b);
-        let word = result.value;
+        let word = result.0;
         let old = self.flags;
         let flags = arithmetic::flags_after(instruction.set_flags, old, result);
         let pc = time::next_pc(self.current.pc, self.depth == 0);
@@ -48,10 +47,7 @@ impl State {
         let next = moved.written(flags, register(stored, instruction.dst0), word);
         Executed {
             state: next,
-            answer: ExecuteAnswer::Done {
-                write,
-                event: Event::None,
-            },
+            answer: Ok(ExecuteAnswer { write, event: None }),
         }
     }
 }

@@ -2,11 +2,13 @@
 ghost use Rattle.std.specs.Prelude.{◌≡◌, ◌-◌, ◌≤◌, min, false, cond};
 ghost use Rattle.rules.specs.Code.{super_pc};
 ghost use Rattle.cycle.specs.Decode.{decoded_state, decode_refusal, decode_of};
-ghost use Rattle.cycle.specs.Answers.{decode_number, decode_case};
+ghost use Rattle.refusal.specs.Refusal.{refusal_number};
+ghost use Rattle.cycle.specs.Answers.{decode_case};
 ghost use Rattle.cycle.specs.Tells.{decode_tells};
 
-use crate::{DecodeAnswer, Decoded, Kept, State};
-use rules::{Location, Record, Records, Settings, decode, fetch, parsing, refusal};
+use crate::{DecodeAnswer, Decoded, Kept, Stage, State};
+use refusal::Refusal;
+use rules::{Location, Record, Records, Settings, decode, fetch, parsing, sizes};
 
 // What decode charges, and the ergs that are left.
 #[derive(Clone, Copy)]
@@ -22,8 +24,8 @@ fn pay(flagged: bool, price: u32, held: u32) -> Paid
 {
     if flagged {
         Paid {
-            charge: decode::smaller(price, held),
-            ergs: decode::less(held, price),
+            charge: price.min(held),
+            ergs: held.saturating_sub(price),
         }
     } else {
         Paid {
@@ -68,14 +70,14 @@ impl State {
         next.fetched_word = none;
         next.has_word = false;
         next.kept = kept;
-        next.stage = 2;
+        next.stage = Stage::Operands as u8;
         next
     }
 
     #[tactic(auto, using(rules::proofs::ChargeLaws::covered), unfolding(crate::specs::Decode::decode_of, crate::specs::Decode::decode_done, rules::specs::Charge::error_flags))]
     pub fn decode(self, settings: Settings, store: &[u32], records: Records) -> Decoded
         ensures { (result ≡ decode_of settings records self store.now)
-            × (decode_number result.answer ≡ decode_refusal settings records self store.now)
+            × (refusal_number result.answer ≡ decode_refusal settings records self store.now)
             × (decode_case result.answer ≡ decode_tells settings records self store.now) }
     {
         let plain = records.plain;
@@ -86,14 +88,17 @@ impl State {
         let ended = self.depth == 0;
         let errors = decode::error_flags(current, self.depth, settings.depth_limit, plain);
         let flagged = decode::any_error(errors);
-        let sizes = refusal::bad_sizes(settings.depth_limit, self.depth, store.len());
+        let sizes = sizes::bad_sizes(settings.depth_limit, self.depth, store.len());
         let bad = parsing::bad_records(records, ended, self.pending_exception, flagged);
-        let turn = !(self.stage == 1);
+        let turn = !(self.stage == Stage::Decode as u8);
         if sizes | turn | bad {
-            let n = refusal::first_number(sizes, turn, 3);
+            let refusal = refusal::first_after(
+                &[(sizes, Refusal::Sizes), (turn, Refusal::Turn)],
+                Refusal::Record,
+            );
             return Decoded {
                 state: self,
-                answer: DecodeAnswer::Refused(n),
+                answer: Err(refusal),
             };
         }
         let price = decode::price_of(ended, plain.price);
@@ -106,7 +111,7 @@ impl State {
         );
         Decoded {
             state: next,
-            answer: DecodeAnswer::Done { charge, errors },
+            answer: Ok(DecodeAnswer { charge, errors }),
         }
     }
 }

@@ -1,24 +1,23 @@
 // Execute, from the Rust's `cycle`.
 ghost use Rattle.std.specs.Prelude.{◌≡◌, if◌then◌else◌};
-ghost use Rattle.frame.specs.Refusal.{first_of};
 ghost use Rattle.cycle.specs.Execute.{execute_of, execute_store};
-ghost use Rattle.cycle.specs.Answers.{execute_number, execute_checks, execute_case};
+ghost use Rattle.refusal.specs.Refusal.{refusal_number, first_of};
+ghost use Rattle.cycle.specs.Answers.{execute_checks, execute_case};
 ghost use Rattle.cycle.specs.Tells.{execute_tells};
 
-use crate::{Executed, State};
-use rules::{Settings, parsing, refusal, select};
+use crate::{Executed, Stage, State};
+use refusal::Refusal;
+use rules::kinds::Operation;
+use rules::{Settings, parsing, select, sizes};
 use u256::U256;
 
-// Refusals 1, 2, 3, 5 and 6, one of which holds.
-fn execute_refusal(sizes: bool, turn: bool, bad: bool, other: bool) -> u32
-    ensures { result ≡ (if sizes then 1 else (if turn then 2 else (if bad then 3 else (if other then 5 else 6)))) }
-{
-    refusal::first_number(
-        sizes,
-        turn,
-        refusal::either_number(bad, 3, refusal::either_number(other, 5, 6)),
-    )
-}
+const NOP: u8 = Operation::Nop as u8;
+
+const ADD: u8 = Operation::Add as u8;
+
+const SUB: u8 = Operation::Sub as u8;
+
+const NEAR_CALL: u8 = Operation::NearCall as u8;
 
 impl State {
     // The word and its pointer bit are looked at only where operands gave a source location.
@@ -31,7 +30,7 @@ impl State {
     ) -> Executed
         ensures { (result ≡ execute_of settings word pointer self store.old)
             × (store.new ≡ execute_store settings word pointer self store.old)
-            × (execute_number result.answer ≡ first_of (execute_checks settings word pointer self store.old))
+            × (refusal_number result.answer ≡ first_of (execute_checks settings word pointer self store.old))
             × (execute_case result.answer ≡ execute_tells settings word pointer self store.old) }
     {
         let kept = self.kept;
@@ -42,7 +41,7 @@ impl State {
         let src0 = sources.src0;
         let src1 = sources.src1;
         let operation = instruction.operation;
-        let sizes = refusal::bad_sizes(settings.depth_limit, self.depth, store.len());
+        let sizes = sizes::bad_sizes(settings.depth_limit, self.depth, store.len());
         let bad = !parsing::good_record(instruction);
         let held = select::pointer_refused(
             self.current.is_kernel_mode(),
@@ -50,17 +49,25 @@ impl State {
             src0.is_pointer,
             src1.is_pointer,
         );
-        let turn = !(self.stage == 3);
-        let other = operation == 5;
+        let turn = !(self.stage == Stage::Execute as u8);
+        let other = operation == Operation::Other as u8;
         if sizes | turn | bad | other | held {
-            return self.refused(execute_refusal(sizes, turn, bad, other));
+            return self.refused(refusal::first_after(
+                &[
+                    (sizes, Refusal::Sizes),
+                    (turn, Refusal::Turn),
+                    (bad, Refusal::Record),
+                    (other, Refusal::Operation),
+                ],
+                Refusal::Pointer,
+            ));
         }
         let a = src0.value;
         let b = src1.value;
         match operation {
-            0 => self.nop(settings),
-            1 | 2 => self.arithmetic(settings, a, b),
-            3 => self.near_call(settings, a.low_u32(), store),
+            NOP => self.nop(settings),
+            ADD | SUB => self.arithmetic(settings, a, b),
+            NEAR_CALL => self.near_call(settings, a.low_u32(), store),
             _ => self.ret(settings, store),
         }
     }

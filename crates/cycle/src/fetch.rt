@@ -1,11 +1,14 @@
 // The code query and fetch, from the Rust's `cycle.rs`.
 ghost use Rattle.std.specs.Prelude.{◌≡◌};
 ghost use Rattle.cycle.specs.Fetch.{query_of, location_if, fetched_state, code_answer, fetch_refusal, fetch_of};
-ghost use Rattle.cycle.specs.Answers.{fetch_number, fetch_case, location_case};
+ghost use Rattle.refusal.specs.Refusal.{refusal_number};
+ghost use Rattle.cycle.specs.Answers.{fetch_case, location_case};
 ghost use Rattle.cycle.specs.Tells.{query_tells, fetch_tells};
 
-use crate::{FetchAnswer, Fetched, State};
-use rules::{Location, Settings, fetch, refusal};
+use crate::{FetchAnswer, Fetched, Stage, State};
+use refusal::Refusal;
+use rules::kinds::MemoryType;
+use rules::{Location, Settings, fetch, sizes};
 use u256::U256;
 
 fn query_of(wanted: bool, page: u32, index: u16) -> Location
@@ -13,9 +16,9 @@ fn query_of(wanted: bool, page: u32, index: u16) -> Location
 {
     if wanted {
         Location::At {
-            memory_type: 2,
+            memory_type: MemoryType::Code as u8,
             page,
-            index: index as u32,
+            index: u32::from(index),
         }
     } else {
         Location::None
@@ -42,7 +45,7 @@ impl State {
         let mut next = self.apart();
         next.fetched_word = word;
         next.has_word = wanted;
-        next.stage = 1;
+        next.stage = Stage::Decode as u8;
         next
     }
 
@@ -67,18 +70,21 @@ impl State {
     #[tactic(auto, unfolding(crate::specs::Fetch::fetch_of, crate::specs::Fetch::fetch_done))]
     pub fn fetch(self, settings: Settings, store: &[u32], word: U256) -> Fetched
         ensures { (result ≡ fetch_of settings word self store.now)
-            × (fetch_number result.answer ≡ fetch_refusal settings self store.now)
+            × (refusal_number result.answer ≡ fetch_refusal settings self store.now)
             × (fetch_case result.answer ≡ fetch_tells settings word self store.now) }
     {
         let ended = self.depth == 0;
         let pending = self.pending_exception;
-        let sizes = refusal::bad_sizes(settings.depth_limit, self.depth, store.len());
-        let turn = !(self.stage == 0);
+        let sizes = sizes::bad_sizes(settings.depth_limit, self.depth, store.len());
+        let turn = !(self.stage == Stage::Fetch as u8);
         if sizes | turn | (ended & pending) {
-            let n = refusal::first_number(sizes, turn, 4);
+            let refusal = refusal::first_after(
+                &[(sizes, Refusal::Sizes), (turn, Refusal::Turn)],
+                Refusal::EndedPending,
+            );
             return Fetched {
                 state: self,
-                answer: FetchAnswer::Refused(n),
+                answer: Err(refusal),
             };
         }
         let pc = self.current.pc;
@@ -99,7 +105,7 @@ impl State {
         let next = self.fetched(wanted, read);
         Fetched {
             state: next,
-            answer: code_answer(ended, pending, bits),
+            answer: Ok(code_answer(ended, pending, bits)),
         }
     }
 }

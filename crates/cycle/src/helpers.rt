@@ -1,11 +1,12 @@
 // What the operations of execute share, after the Rust's `helpers.rs`.
 ghost use Rattle.std.specs.Prelude.{◌≡◌, ◌+◌, ◌^◌, ◌<◌, true, false};
 ghost use Rattle.rules.specs.Time.{time_after};
-ghost use Rattle.cycle.specs.Effects.{no_flags, no_record, finished_state, moved_state, written_state, switched_state};
+ghost use Rattle.cycle.specs.Effects.{no_flags, finished_state, moved_state, written_state, switched_state};
 ghost use Rattle.cycle.specs.Helpers.{late_in, finished_in, refused_with, is_stored, write_of, nop_of};
 
-use crate::{Event, ExecuteAnswer, Executed, Kept, State, Write};
+use crate::{ExecuteAnswer, Executed, Kept, Stage, State, Write};
 use frame::{Frame, PubdataCost};
+use refusal::Refusal;
 use rules::{Flags, Location, PrimitiveValue, Record, Settings, time};
 use u256::U256;
 
@@ -26,37 +27,7 @@ pub(crate) fn sum(a: u32, b: u32) -> u32
 pub(crate) fn no_flags() -> Flags
     ensures { result ≡ no_flags }
 {
-    Flags {
-        overflow_or_less_than_flag: false,
-        equality_flag: false,
-        greater_than_flag: false,
-    }
-}
-
-pub(crate) fn no_record() -> Record
-    ensures { result ≡ no_record }
-{
-    Record {
-        operation: 0,
-        return_kind: 0,
-        condition: 0,
-        source_kind: 0,
-        destination_kind: 0,
-        src0: 0,
-        src1: 0,
-        dst0: 0,
-        imm_0: 0,
-        imm_1: 0,
-        price: 0,
-        explicit_panic: false,
-        kernel_only: false,
-        allowed_when_static: false,
-        swap: false,
-        set_flags: false,
-        to_label: false,
-        src0_may_be_pointer: false,
-        src1_may_be_pointer: false,
-    }
+    Flags::default()
 }
 
 pub(crate) fn is_stored(location: Location) -> bool
@@ -73,7 +44,7 @@ pub(crate) fn is_stored(location: Location) -> bool
 }
 
 // A write carries time plus 3.
-pub(crate) fn write_of(location: Location, time: u32, value: PrimitiveValue) -> Write
+pub(crate) fn write_of(location: Location, time: u32, value: PrimitiveValue) -> Option<Write>
     requires { is_stored location ≡ true → time + 3 < 2 ^ 32 }
     ensures { result ≡ write_of location time value }
 {
@@ -83,15 +54,15 @@ pub(crate) fn write_of(location: Location, time: u32, value: PrimitiveValue) -> 
         index,
     } = location
     else {
-        return Write::None;
+        return None;
     };
-    Write::At {
+    Some(Write {
         memory_type,
         page,
         index,
         time: time + 3,
         value,
-    }
+    })
 }
 
 impl State {
@@ -134,7 +105,7 @@ impl State {
         ensures { result ≡ finished_state self time counter }
     {
         let kept = Kept {
-            instruction: no_record(),
+            instruction: Record::default(),
             write: Location::None,
         };
         // Word by word: a copy of the whole word keeps the state in memory, and costs a factor of two.
@@ -150,7 +121,7 @@ impl State {
         next.timestamp = time;
         next.monotonic_cycle_counter = counter;
         next.kept = kept;
-        next.stage = 0;
+        next.stage = Stage::Fetch as u8;
         next
     }
 
@@ -170,7 +141,7 @@ impl State {
         let old_words = self.registers;
         let old_pointers = self.pointers;
         let words = registers::update(old_words, n, word);
-        let pointers = registers::update_pointer(old_pointers, n, false);
+        let pointers = registers::update(old_pointers, n, false);
         let mut next = self.apart();
         next.registers = words;
         next.pointers = pointers;
@@ -202,12 +173,12 @@ impl State {
         )
     }
 
-    pub(crate) fn refused(self, n: u32) -> Executed
-        ensures { result ≡ refused_with self n }
+    pub(crate) fn refused(self, refusal: Refusal) -> Executed
+        ensures { result ≡ record { state = self; answer = Err refusal } }
     {
         Executed {
             state: self,
-            answer: ExecuteAnswer::Refused(n),
+            answer: Err(refusal),
         }
     }
 
@@ -227,16 +198,16 @@ impl State {
         ensures { result ≡ nop_of settings self }
     {
         if self.is_late(settings) {
-            return self.refused(14);
+            return self.refused(Refusal::Above32Bits);
         }
         let pc = time::next_pc(self.current.pc, self.depth == 0);
         let next = self.finish(settings).moved(pc);
         Executed {
             state: next,
-            answer: ExecuteAnswer::Done {
-                write: Write::None,
-                event: Event::None,
-            },
+            answer: Ok(ExecuteAnswer {
+                write: None,
+                event: None,
+            }),
         }
     }
 }

@@ -11,8 +11,18 @@ mod operands;
 mod ret;
 
 use frame::{Frame, PubdataCost};
+use refusal::Refusal;
 use rules::{ErrorFlags, Flags, Location, PrimitiveValue, Record};
 use u256::U256;
+
+// The stages of a cycle, in turn.
+#[derive(Clone, Copy, Debug, PartialEq, Eq)]
+pub enum Stage {
+    Fetch,
+    Decode,
+    Operands,
+    Execute,
+}
 
 // What decode and operands keep for the stages after them.
 #[derive(Clone, Copy)]
@@ -39,83 +49,75 @@ pub struct State {
     pub pubdata_revert_counter: PubdataCost,
     pub previous_super_pc: u16,
     pub pointers: [bool; 15],
-    // 0 ready, 1 fetched, 2 decoded, 3 operands
+    // the number of the stage that comes next; a number, since a state with any other has to be answered too
     pub stage: u8,
     pub has_word: bool,
     pub pending_exception: bool,
 }
 
+// 64 bits of code, or that an exception is pending, or that execution has ended.
 #[derive(Clone, Copy)]
 pub enum FetchAnswer {
     Code(u64),
     Exception,
     Nop,
-    Refused(u32),
 }
 
 #[derive(Clone, Copy)]
 pub struct Fetched {
     pub state: State,
-    pub answer: FetchAnswer,
+    pub answer: Result<FetchAnswer, Refusal>,
 }
 
 #[derive(Clone, Copy)]
-pub enum DecodeAnswer {
-    // The charge first, where Refused has its number: elsewhere the answer would stay in memory.
-    Done { charge: u32, errors: ErrorFlags },
-    Refused(u32),
+pub struct DecodeAnswer {
+    pub charge: u32,
+    pub errors: ErrorFlags,
 }
 
 #[derive(Clone, Copy)]
 pub struct Decoded {
     pub state: State,
-    pub answer: DecodeAnswer,
+    pub answer: Result<DecodeAnswer, Refusal>,
 }
 
 #[derive(Clone, Copy)]
-pub enum OperandsAnswer {
-    Done {
-        source: Location,
-        destination: Location,
-    },
-    Refused(u32),
+pub struct OperandsAnswer {
+    pub source: Location,
+    pub destination: Location,
 }
 
 #[derive(Clone, Copy)]
 pub struct Addressed {
     pub state: State,
-    pub answer: OperandsAnswer,
+    pub answer: Result<OperandsAnswer, Refusal>,
 }
 
-// What is to be written to memory, if anything.
+// What is to be written to memory; the kind is the number that the state's location has.
 #[derive(Clone, Copy)]
-pub enum Write {
-    None,
-    At {
-        memory_type: u8,
-        page: u32,
-        index: u32,
-        time: u32,
-        value: PrimitiveValue,
-    },
+pub struct Write {
+    pub memory_type: u8,
+    pub page: u32,
+    pub index: u32,
+    pub time: u32,
+    pub value: PrimitiveValue,
 }
 
 // What happened to the frames: closed carries its panicked bit.
 #[derive(Clone, Copy)]
 pub enum Event {
-    None,
     Opened,
     Closed(bool),
 }
 
 #[derive(Clone, Copy)]
-pub enum ExecuteAnswer {
-    Done { write: Write, event: Event },
-    Refused(u32),
+pub struct ExecuteAnswer {
+    pub write: Option<Write>,
+    pub event: Option<Event>,
 }
 
 #[derive(Clone, Copy)]
 pub struct Executed {
     pub state: State,
-    pub answer: ExecuteAnswer,
+    pub answer: Result<ExecuteAnswer, Refusal>,
 }

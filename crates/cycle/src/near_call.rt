@@ -3,8 +3,9 @@ ghost use Rattle.std.specs.Prelude.{◌≡◌, false};
 ghost use Rattle.cycle.specs.State.{bad_store};
 ghost use Rattle.cycle.specs.NearCall.{near_call_of, near_call_store};
 
-use crate::{Event, ExecuteAnswer, Executed, State, Write, helpers};
-use rules::{Settings, near_call, refusal, time};
+use crate::{Event, ExecuteAnswer, Executed, State, helpers};
+use refusal::Refusal;
+use rules::{Settings, near_call, time};
 
 impl State {
     // The caller's row is written at the first free row.
@@ -18,24 +19,27 @@ impl State {
         let depth = self.depth;
         let full = depth == settings.depth_limit;
         if full | self.is_late(settings) {
-            return self.refused(refusal::either_number(full, 9, 14));
+            return self.refused(refusal::first_after(
+                &[(full, Refusal::DepthLimit)],
+                Refusal::Above32Bits,
+            ));
         }
         let f = self.current;
         let wanted = near_call::wanted_ergs(want, settings.near_call_multiplier);
         let passed = near_call::passed_ergs(wanted, f.ergs_remaining);
         let pc = time::next_pc(f.pc, depth == 0);
         let caller = near_call::caller_frame(f, f.ergs_remaining - passed, pc);
-        frame::save_frame(store, depth, caller);
+        let _ = frame::save_frame(store, depth, caller);
         let opened = near_call::opened_frame(caller, passed, instruction.imm_0, instruction.imm_1);
         let reverts = self.pubdata_revert_counter;
         let base = self.finish(settings);
         let next = base.switched(opened, helpers::sum(depth, 1), helpers::no_flags(), reverts);
         Executed {
             state: next,
-            answer: ExecuteAnswer::Done {
-                write: Write::None,
-                event: Event::Opened,
-            },
+            answer: Ok(ExecuteAnswer {
+                write: None,
+                event: Some(Event::Opened),
+            }),
         }
     }
 }

@@ -1,11 +1,13 @@
 // Operands, from the Rust's `compute_addresses_and_select_operands`.
 ghost use Rattle.std.specs.Prelude.{◌≡◌};
 ghost use Rattle.cycle.specs.Operands.{addressed_state, operands_refusal, operands_of};
-ghost use Rattle.cycle.specs.Answers.{operands_number, operands_case};
+ghost use Rattle.refusal.specs.Refusal.{refusal_number};
+ghost use Rattle.cycle.specs.Answers.{operands_case};
 ghost use Rattle.cycle.specs.Tells.{operands_tells};
 
-use crate::{Addressed, Kept, OperandsAnswer, State};
-use rules::{Location, Settings, mem_ops, parsing, refusal};
+use crate::{Addressed, Kept, OperandsAnswer, Stage, State};
+use refusal::Refusal;
+use rules::{Location, Settings, mem_ops, parsing, sizes};
 
 impl State {
     #[tactic(auto, unfolding(crate::specs::Operands::addressed_state, frame::specs::Fields::with_sp))]
@@ -18,29 +20,36 @@ impl State {
         let mut next = self.apart();
         next.current.sp = sp;
         next.kept = kept;
-        next.stage = 3;
+        next.stage = Stage::Execute as u8;
         next
     }
 
     #[tactic(auto, using(crate::proofs::OperandsLaws::places_exact, crate::proofs::OperandsLaws::places_told), unfolding(crate::specs::Operands::operands_of, crate::specs::Operands::operands_done))]
     pub fn operands(self, settings: Settings, store: &[u32]) -> Addressed
         ensures { (result ≡ operands_of settings self store.now)
-            × (operands_number result.answer ≡ operands_refusal settings self store.now)
+            × (refusal_number result.answer ≡ operands_refusal settings self store.now)
             × (operands_case result.answer ≡ operands_tells settings self store.now) }
     {
         let kept = self.kept;
         let instruction = kept.instruction;
         let base = self.current.base_memory_page;
-        let sizes = refusal::bad_sizes(settings.depth_limit, self.depth, store.len());
+        let sizes = sizes::bad_sizes(settings.depth_limit, self.depth, store.len());
         let bad = !parsing::good_record(instruction);
         let lacking = mem_ops::lacks_stack_page(instruction, base);
-        let turn = !(self.stage == 2);
+        let turn = !(self.stage == Stage::Operands as u8);
         if sizes | turn | bad | lacking {
-            let n = refusal::first_number(sizes, turn, refusal::either_number(bad, 3, 14));
+            let refusal = refusal::first_after(
+                &[
+                    (sizes, Refusal::Sizes),
+                    (turn, Refusal::Turn),
+                    (bad, Refusal::Record),
+                ],
+                Refusal::Above32Bits,
+            );
             // Apart here too: the compiler would else keep sp and pc in one piece, where the records are not known to it.
             return Addressed {
                 state: self.apart(),
-                answer: OperandsAnswer::Refused(n),
+                answer: Err(refusal),
             };
         }
         let registers = self.registers;
@@ -57,10 +66,10 @@ impl State {
         let next = self.addressed(places.sp, destination);
         Addressed {
             state: next,
-            answer: OperandsAnswer::Done {
+            answer: Ok(OperandsAnswer {
                 source,
                 destination,
-            },
+            }),
         }
     }
 }

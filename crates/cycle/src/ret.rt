@@ -2,17 +2,18 @@
 ghost use Rattle.std.specs.Prelude.{◌≡◌};
 ghost use Rattle.cycle.specs.Ret.{panic_flags, close_of, return_of};
 
-use crate::{Event, ExecuteAnswer, Executed, State, Write, helpers};
-use frame::{Frame, ReadAnswer};
-use rules::{Flags, Settings, decode, refusal, ret};
+use crate::{Event, ExecuteAnswer, Executed, State, helpers};
+use frame::Frame;
+use refusal::Refusal;
+use rules::kinds::ReturnKind;
+use rules::{Flags, Settings, ret};
 
 fn panic_flags(panic: bool) -> Flags
     ensures { result ≡ panic_flags panic }
 {
     Flags {
         overflow_or_less_than_flag: panic,
-        equality_flag: false,
-        greater_than_flag: false,
+        ..Flags::default()
     }
 }
 
@@ -27,27 +28,27 @@ impl State {
         let f = self.current;
         let closed_cost = f.total_pubdata_spent;
         let reverts = self.pubdata_revert_counter;
-        let ok = instruction.return_kind == 0;
+        let ok = instruction.return_kind == ReturnKind::Ok as u8;
         let caller_cost = caller.total_pubdata_spent;
         let spent = ret::pubdata_after(ok, caller_cost, closed_cost);
         let reverted = ret::counter_after(ok, reverts, closed_cost);
         if ret::is_close_refused(spent, reverted, caller, f, self.is_late(settings)) {
-            return self.refused(ret::close_number(spent, reverted, caller, f));
+            return self.refused(ret::close_refusal(spent, reverted, caller, f));
         }
         let ergs = helpers::sum(caller.ergs_remaining, f.ergs_remaining);
         let resumed = ret::resumed_frame(instruction, caller, f, spent, ergs);
         let counter = ret::cost_of(reverted);
-        let flags = panic_flags(instruction.return_kind == 2);
-        let depth = decode::less(self.depth, 1);
+        let flags = panic_flags(instruction.return_kind == ReturnKind::Panic as u8);
+        let depth = self.depth.saturating_sub(1);
         let next = self
             .finish(settings)
             .switched(resumed, depth, flags, counter);
         Executed {
             state: next,
-            answer: ExecuteAnswer::Done {
-                write: Write::None,
-                event: Event::Closed(!ok),
-            },
+            answer: Ok(ExecuteAnswer {
+                write: None,
+                event: Some(Event::Closed(!ok)),
+            }),
         }
     }
 
@@ -58,13 +59,15 @@ impl State {
         let depth = self.depth;
         let far = !self.current.is_local_frame;
         if far | (depth == 0) {
-            return self.refused(refusal::either_number(far, 7, 8));
+            return self.refused(refusal::first_after(
+                &[(far, Refusal::FarReturn)],
+                Refusal::NoCaller,
+            ));
         }
-        let row = frame::read_frame(store, decode::less(depth, 1));
+        let row = frame::read_frame(store, depth.saturating_sub(1));
         match row {
-            ReadAnswer::Good(caller) => self.close(settings, caller),
-            ReadAnswer::Missing => self.refused(1),
-            ReadAnswer::NotGood => self.refused(8),
+            Ok(caller) => self.close(settings, caller),
+            Err(error) => self.refused(Refusal::from(error)),
         }
     }
 }

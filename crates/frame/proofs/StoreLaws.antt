@@ -1,21 +1,22 @@
 -- Rows of the frame store: saved, read back, and left as they were. Assumes nothing.
-use Prim.Native.Nat.{ℕ, zero, suc, ◌+◌, ◌-◌, ◌*◌, ◌/◌, ◌≤◌, ◌<◌}
+use Prim.Native.Nat.{ℕ, zero, suc, min, ◌+◌, ◌-◌, ◌*◌, ◌/◌, ◌≤◌, ◌<◌}
 use mathlib.Core.Bool.{Bool, true, false, cond}
 use mathlib.Core.Path.{◌≡◌, refl, sym, ap, ◌∙◌}
-use mathlib.Core.Logic.{◌↔◌}
-use mathlib.Core.List.{List, [], ◌++◌, append-nil}
+use mathlib.Core.Logic.{◌↔◌, ◌⊎◌, inl, inr}
+use mathlib.Core.List.{List, [], ◌∷◌, ◌++◌, append-nil}
+use Rattle.std.specs.Prelude.{Result, Ok, Err}
 use native.Mathlib.Omega.{arith}
-use native.Mathlib.Nat.{add-sub_cancel_left, zero-add, suc-add}
+use native.Mathlib.Nat.{zero-add, add-zero, suc-add}
 use lib.Dec.{ltb, leb}
-use lib.ListN.{length, take, drop, get_or, length-drop, length-append, get_or-eq_default}
-use lib.Seq.{take_all, drop-length, drop-drop, drop_at, take-take, take-append-le, drop-append-add, length-take-le, ext_get_or, get_or-take, get_or-drop}
+use lib.ListN.{length, take, drop, length-drop, length-append}
+use lib.Seq.{take_all, drop-length, drop-drop, drop_at, take-take, take-append-le, drop-append-add, length-take-le, ext_get_or, get_or-take}
 use borrow.Author.Tests.{lt-ltb, le-ltb, le-leb, ltb-true, ltb-false}
-use Rattle.std.proofs.lemmas.List.{drop-take}
+use Rattle.std.proofs.lemmas.List.{drop-take, drop_all}
 use Rattle.frame.specs.declared.Frame.{Frame}
-use Rattle.frame.specs.declared.SaveAnswer.{SaveAnswer}
-use Rattle.frame.specs.declared.ReadAnswer.{ReadAnswer}
-use Rattle.frame.specs.Row.{row_width, row_of, word, frame_of, good_words}
-use Rattle.frame.specs.Store.{whole_rows, row_at, store_with, save_of, saved_store, save_number, save_refusal, read_of, read_number, read_refusal, saved_ergs}
+use Rattle.frame.specs.declared.RowError.{RowError}
+use Rattle.frame.specs.Bounds.{Bounds}
+use Rattle.frame.specs.Row.{row_width, row_of, word, frame_of, good_words, good_row}
+use Rattle.frame.specs.Store.{whole_rows, row_at, store_with, row_number, save_of, saved_store, save_refusal, read_of, read_refusal, saved_ergs}
 use Rattle.frame.proofs.RowLaws.{Ranges, good_of_frame, frame_of_row}
 
 -- a row that the store has lies in it whole
@@ -33,43 +34,64 @@ row_size store i h =
 row_of_front : (store : List ℕ) (k : ℕ) → drop (k * row_width) (take ((k + 1) * row_width) store) ≡ row_at store k
 row_of_front store k = ap (λ (n : ℕ). drop (k * row_width) (take n store)) (sym (next_row k)) ∙ drop-take (k * row_width) row_width store
 
+-- the first words decide whether a row is good
+pub front_row : (w : ℕ) (words : List ℕ) → row_width ≤ length words → good_words w (take row_width words) ≡ good_row w words
+front_row w words h =
+    rw (
+      le-leb row_width (length words) h,
+      at 17 (omega arith),
+      at 18 (omega arith),
+      at 19 (omega arith),
+      at 21 (omega arith),
+      at 22 (omega arith),
+      at 23 (omega arith),
+      at 24 (omega arith),
+      at 25 (omega arith),
+    )
+  where
+    at : (k : ℕ) → k < row_width → word (take row_width words) k ≡ word words k
+    at k l = get_or-take row_width words k 0 l
+
 -- ---- reading
 module _ (w : ℕ) (store : List ℕ) (i : ℕ) where
   -- an answer, with its number
-  abbrev pub Read : ReadAnswer → Type 0
-  Read r = (r ≡ read_of w store i) × (read_number r ≡ read_refusal w store i)
+  abbrev pub Read : Result Frame RowError → Type 0
+  Read r = (r ≡ read_of w store i) × (row_number r ≡ read_refusal w store i)
 
-  -- the row as the code lends it
-  abbrev lent : List ℕ
-  lent = take (i * row_width + row_width - i * row_width) (drop (i * row_width) store)
+  -- the first words of the part of the store that begins at the row
+  pub lent_row : i < whole_rows store → take row_width (take (length store - i * row_width) (drop (i * row_width) store)) ≡ row_at store i
+  lent_row h = take-take row_width (length store - i * row_width) (drop (i * row_width) store) (omega (arith, fits (length store) i h))
 
-  lent_row : lent ≡ row_at store i
-  lent_row = ap (λ (n : ℕ). take n (drop (i * row_width) store)) (add-sub_cancel_left (i * row_width) row_width)
-
-  pub read_missing : whole_rows store ≤ i → Read ReadAnswer.Missing
+  pub read_missing : whole_rows store ≤ i → Read (Err RowError.Missing)
   unfolding read_of
   read_missing h = rw (le-ltb i (whole_rows store) h) (refl, refl)
 
-  module _ (h : i < whole_rows store) (b : Bool) (e : b ≡ good_words w lent) where
+  -- the words are those that the code reads
+  module _ (h : i < whole_rows store) (words : List ℕ) (same : words ≡ row_at store i) (b : Bool) (e : b ≡ good_words w words) where
     sized : leb row_width (length (row_at store i)) ≡ true
     sized = le-leb row_width (length (row_at store i)) (omega (arith, row_size store i h))
 
-    pub read_good : b ≡ true → (f : Frame) → f ≡ frame_of lent → Read (ReadAnswer.Good f)
-    unfolding read_of
-    read_good t f q =
-        rw (lt-ltb i (whole_rows store) h, sized, ← ap (good_words w) lent_row, ← e, t, q, lent_row) (refl, refl)
+    pub bounds : b ≡ true → Bounds w words
+    bounds t =
+        let size : row_width ≤ length words = rw same (omega (arith, row_size store i h)) in
+        let good : good_words w words ≡ true = rw (← e) t in
+        grind arith
 
-    pub read_not_good : b ≡ false → Read ReadAnswer.NotGood
+    pub read_good : b ≡ true → (f : Frame) → f ≡ frame_of words → Read (Ok f)
     unfolding read_of
-    read_not_good t = rw (lt-ltb i (whole_rows store) h, sized, ← ap (good_words w) lent_row, ← e, t) (refl, refl)
+    read_good t f q = rw (lt-ltb i (whole_rows store) h, sized, ← same, ← e, t, q) (refl, refl)
+
+    pub read_not_good : b ≡ false → Read (Err RowError.NotGood)
+    unfolding read_of
+    read_not_good t = rw (lt-ltb i (whole_rows store) h, sized, ← same, ← e, t) (refl, refl)
 
 -- ---- saving
 module _ (store : List ℕ) (i : ℕ) (f : Frame) where
   -- an answer, with its number, and the store after it
-  abbrev pub Saves : SaveAnswer → List ℕ → Type 0
-  Saves r after = (r ≡ save_of store i) × (save_number r ≡ save_refusal store i) × (after ≡ saved_store store i f)
+  abbrev pub Saves : Result (Unit {0}) RowError → List ℕ → Type 0
+  Saves r after = (r ≡ save_of store i) × (row_number r ≡ save_refusal store i) × (after ≡ saved_store store i f)
 
-  pub save_missing : whole_rows store ≤ i → Saves SaveAnswer.Missing store
+  pub save_missing : whole_rows store ≤ i → Saves (Err RowError.Missing) store
   unfolding save_of saved_store
   save_missing h = rw (le-ltb i (whole_rows store) h) (refl, refl, refl)
 
@@ -86,7 +108,7 @@ module _ (store : List ℕ) (i : ℕ) (f : Frame) where
         drop-drop row_width (i * row_width) store ∙ ap (λ (n : ℕ). drop n store) (next_row i) in
         rw (e, all, none, append-nil (row_of f ++ drop row_width (drop (i * row_width) store)), next)
 
-    pub save_done : Saves SaveAnswer.Saved (take (i * row_width) store ++ (last ++ drop (length store - i * row_width) (drop (i * row_width) store)))
+    pub save_done : Saves (Ok tt) (take (i * row_width) store ++ (last ++ drop (length store - i * row_width) (drop (i * row_width) store)))
     unfolding save_of saved_store
     save_done = rw (lt-ltb i (whole_rows store) h) (refl, refl, written)
 
@@ -154,7 +176,7 @@ module _ (store : List ℕ) (i : ℕ) (f : Frame) where
   saved_row h = rw (lt-ltb i (whole_rows store) h) (with_row h)
 
   -- reading what was saved gives the frame back
-  pub read_saved : (w : ℕ) → i < whole_rows store → Ranges w f → read_of w (saved_store store i f) i ≡ ReadAnswer.Good f
+  pub read_saved : (w : ℕ) → i < whole_rows store → Ranges w f → read_of w (saved_store store i f) i ≡ Ok f
   unfolding read_of
   read_saved w h r =
       rw (saved_length, lt-ltb i (whole_rows store) h, saved_row h, good_of_frame w f r, frame_of_row f r.spent)
@@ -167,22 +189,38 @@ rows_agree s t i j hs ht = (
   λ e. ext_get_or 0 (row_at s i) (row_at t j) (row_size s i hs ∙ sym (row_size t j ht)) (λ k l. e k (omega (arith, row_size s i hs))),
 )
 
--- ---- the ergs of a row
--- where a row has them
-pub ergs_at : (store : List ℕ) (i : ℕ) → get_or store (i * row_width + 20) 0 ≡ (frame_of (row_at store i)).ergs_remaining
-ergs_at store i = sym (get_or-take row_width (drop (i * row_width) store) 20 0 (omega arith) ∙ get_or-drop (i * row_width) store 20 0)
+-- ---- the ergs of the saved rows
+-- a chunk of at most w elements, and what is left after it
+chunk : (w : ℕ) (xs ys : List ℕ) → length xs ≡ min w (length (xs ++ ys)) → (xs ≡ take w (xs ++ ys)) × (ys ≡ drop w (xs ++ ys))
+chunk zero [] ys h = (refl, refl)
+chunk (suc w) [] [] h = (refl, refl)
+chunk (suc w) [] (y ∷ ys) h = absurd (omega arith)
+chunk zero (x ∷ xs) ys h = absurd (omega arith)
+chunk (suc w) (x ∷ xs) ys h =
+    let k = chunk w xs ys (omega arith) in
+    (ap (λ (zs : List ℕ). x ∷ zs) k.0, k.1)
 
--- of a row that the store has not
-pub no_ergs : (store : List ℕ) (i : ℕ) → length store ≤ i * row_width + 20 → 0 ≡ (frame_of (row_at store i)).ergs_remaining
-no_ergs store i h = sym (get_or-eq_default store 0 h) ∙ ergs_at store i
+-- the chunk that comes after i rows is row i, and the rows after it are left
+pub next_chunk : (store : List ℕ) (i : ℕ) (rest row left : List ℕ) → rest ≡ drop (i * row_width) store → rest ≡ row ++ left
+    → length row ≡ min row_width (length rest) → (row ≡ row_at store i) × (left ≡ drop (suc i * row_width) store)
+next_chunk store i rest row left er es el =
+    let k = chunk row_width row left (rw (← es) el) in
+    let same : row ++ left ≡ drop (i * row_width) store = sym es ∙ er in (
+      k.0 ∙ ap (take row_width) same,
+      k.1 ∙ ap (drop row_width) same ∙ drop-drop row_width (i * row_width) store ∙ ap (λ (n : ℕ). drop n store) (omega arith),
+    )
 
 -- rows past the store's end add nothing
 saved_ergs_past : (store : List ℕ) (i k : ℕ) → length store ≤ i * row_width → saved_ergs (k + i) store ≡ saved_ergs i store
 saved_ergs_past store i zero h = rw (zero-add i)
 saved_ergs_past store i (suc k) h =
-    rw (suc-add k i, ← no_ergs store (k + i) (omega (arith, h)), saved_ergs_past store i k h, zero-add (saved_ergs i store))
+    let none : row_at store (k + i) ≡ [] = ap (take row_width) (drop_all ((k + i) * row_width) store (omega (arith, h))) in
+    rw (suc-add k i, none, saved_ergs_past store i k h, zero-add (saved_ergs i store))
 
-pub saved_ergs_all : (store : List ℕ) (i depth sum : ℕ) → length store ≤ i * row_width → i ≤ depth → sum ≡ saved_ergs i store → sum ≡ saved_ergs depth store
-saved_ergs_all store i depth sum h l e =
-    let split : (depth - i) + i ≡ depth = omega (arith, l) in
-    e ∙ sym (saved_ergs_past store i (depth - i) h) ∙ ap (λ n. saved_ergs n store) split
+-- the sum of the first i rows is that of as many as the depth, where none is left to take or the store has no more
+pub saved_ergs_all : (store : List ℕ) (i left depth sum : ℕ) → i + left ≡ depth → (left ≡ 0) ⊎ (length (drop (i * row_width) store) ≡ 0) → sum ≡ saved_ergs i store
+    → sum ≡ saved_ergs depth store
+saved_ergs_all store i left depth sum h (inl n) e = rw (← h, n, add-zero i) e
+saved_ergs_all store i left depth sum h (inr n) e =
+    let split : left + i ≡ depth = omega (arith, h) in
+    e ∙ sym (saved_ergs_past store i left (omega (arith, n, length-drop (i * row_width) store))) ∙ ap (λ n. saved_ergs n store) split

@@ -2,5 +2,4 @@ pub mod Kernel
 pub mod Row
 pub mod Fields
 pub mod Bounds
-pub mod Refusal
 pub mod Store

@@ -4,9 +4,11 @@
 ghost use Rattle.std.specs.Prelude.{◌≡◌, ◌*◌, ◌≤◌};
 ghost use Rattle.frame.specs.Kernel.{kernel_mode};
 ghost use Rattle.frame.specs.Row.{good_row, frame_of};
-ghost use Rattle.frame.specs.Store.{save_of, saved_store, save_number, save_refusal, read_of, read_number, read_refusal, row_at, saved_ergs};
+ghost use Rattle.frame.specs.Store.{refusal_of, save_of, saved_store, row_number, save_refusal, read_of, read_refusal, row_at, saved_ergs};
 
 mod row;
+
+use refusal::Refusal;
 
 // The words of a row.
 pub const ROW_WIDTH: usize = 34;
@@ -15,7 +17,7 @@ pub const ROW_WIDTH: usize = 34;
 const ERGS: usize = 20;
 
 // 20 bytes in five words, the first byte highest.
-#[derive(Clone, Copy)]
+#[derive(Clone, Copy, Default)]
 pub struct Address {
     pub a0: u32,
     pub a1: u32,
@@ -25,13 +27,13 @@ pub struct Address {
 }
 
 // The Rust's u128.
-#[derive(Clone, Copy)]
+#[derive(Clone, Copy, Default)]
 pub struct U128 {
     pub low: u64,
     pub high: u64,
 }
 
-#[derive(Clone, Copy)]
+#[derive(Clone, Copy, Default)]
 pub struct PubdataCost(pub i32);
 
 // The Rust's `CallStackEntry`. The order leaves no hole of 3, 5, 6 or 7 bytes: such a hole slows each copy down.
@@ -94,66 +96,68 @@ impl Frame {
     }
 }
 
-#[derive(Clone, Copy)]
-pub enum SaveAnswer {
-    Saved,
-    Missing,
-}
-
-#[derive(Clone, Copy)]
-pub enum ReadAnswer {
-    Good(Frame),
+// Why a row is not read or saved: the store has it not whole, or it is not good.
+#[derive(Clone, Copy, Debug, PartialEq, Eq)]
+pub enum RowError {
     Missing,
     NotGood,
+}
+
+impl From<RowError> for Refusal {
+    ghost from_gives = { λ error refusal. refusal ≡ refusal_of error };
+
+    fn from(error: RowError) -> Refusal {
+        match error {
+            RowError::Missing => Refusal::Sizes,
+            RowError::NotGood => Refusal::NoCaller,
+        }
+    }
 }
 
 // Whether words begin with a good row.
 pub fn good_row(words: &[u32]) -> bool
     ensures { result ≡ good_row 16 words.now }
 {
-    if words.len() < ROW_WIDTH {
+    let Some(row) = words.first_chunk() else {
         return false;
-    }
-    row::is_good(words)
+    };
+    row::is_good(row)
 }
 
 // Saves a frame as row i: the row is written through the part of the store that begins at it.
-pub fn save_frame(store: &mut [u32], i: u32, f: Frame) -> SaveAnswer
+pub fn save_frame(store: &mut [u32], i: u32, f: Frame) -> Result<(), RowError>
     ensures { (result ≡ save_of store.old i)
-        × (save_number result ≡ save_refusal store.old i)
+        × (row_number result ≡ save_refusal store.old i)
         × (store.new ≡ saved_store store.old i f) }
 {
     if store.len() / ROW_WIDTH <= i as usize {
-        return SaveAnswer::Missing;
+        return Err(RowError::Missing);
     }
     let first = (i as usize) * ROW_WIDTH;
     row::write(&mut store[first..], f);
-    SaveAnswer::Saved
+    Ok(())
 }
 
 // Reads row i.
-pub fn read_frame(store: &[u32], i: u32) -> ReadAnswer
-    ensures { (result ≡ read_of 16 store.now i) × (read_number result ≡ read_refusal 16 store.now i) }
+pub fn read_frame(store: &[u32], i: u32) -> Result<Frame, RowError>
+    ensures { (result ≡ read_of 16 store.now i) × (row_number result ≡ read_refusal 16 store.now i) }
 {
     if store.len() / ROW_WIDTH <= i as usize {
-        return ReadAnswer::Missing;
+        return Err(RowError::Missing);
     }
     let start = (i as usize) * ROW_WIDTH;
-    let end = start + ROW_WIDTH;
-    let words = &store[start..end];
-    if row::is_good(words) {
-        ReadAnswer::Good(row::read(words))
-    } else {
-        ReadAnswer::NotGood
+    let row = store[start..].first_chunk().unwrap();
+    if !row::is_good(row) {
+        return Err(RowError::NotGood);
     }
+    Ok(row::read(row))
 }
 
-// The ergs of row i; a word that the store has not counts as 0.
-fn row_ergs(store: &[u32], i: u32) -> u32
-    ensures { result ≡ (frame_of (row_at store.now i)).ergs_remaining }
+// The ergs of a row; a word that it has not counts as 0.
+fn row_ergs(row: &[u32]) -> u32
+    ensures { result ≡ (frame_of row.now).ergs_remaining }
 {
-    let at = (i as usize) * ROW_WIDTH + ERGS;
-    if at < store.len() { store[at] } else { 0 }
+    row.get(ERGS).copied().unwrap_or(0)
 }
 
 // The ergs of the first rows, as many as the depth. It stops at the store's end, so that no depth makes it slow.
@@ -161,11 +165,8 @@ pub fn saved_ergs(store: &[u32], depth: u32) -> u64
     ensures { (result ≡ saved_ergs depth store.now) × (result ≤ depth * 4294967295) }
 {
     let mut sum: u64 = 0;
-    let mut i: u32 = 0;
-    while i < depth && (i as usize) * ROW_WIDTH < store.len() {
-        let ergs = row_ergs(store, i);
-        sum += ergs as u64;
-        i += 1;
+    for row in store.chunks(ROW_WIDTH).take(depth as usize) {
+        sum += u64::from(row_ergs(row));
     }
     sum
 }

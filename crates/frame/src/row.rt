@@ -4,19 +4,7 @@ ghost use Rattle.signed.specs.Signed.{word_of};
 ghost use Rattle.frame.specs.Bounds.{Bounds};
 ghost use Rattle.frame.specs.Row.{row_width, row_of, frame_of, good_words, pubdata_of, address_from, u128_of};
 
-use crate::{Address, Frame, PubdataCost, U128};
-
-fn word_of_u16(x: u16) -> u32
-    ensures { result ≡ x }
-{
-    x as u32
-}
-
-fn word_of_u8(x: u8) -> u32
-    ensures { result ≡ x }
-{
-    x as u32
-}
+use crate::{Address, Frame, PubdataCost, ROW_WIDTH, U128};
 
 fn low_word(x: u64) -> u32
     ensures { result ≡ x % 2 ^ 32 }
@@ -37,7 +25,7 @@ fn pubdata_word(spent: PubdataCost) -> u32
 }
 
 // The words of a frame.
-pub(crate) fn row_words(f: Frame) -> [u32; crate::ROW_WIDTH]
+pub(crate) fn row_words(f: Frame) -> [u32; ROW_WIDTH]
     ensures { result ≡ row_of f }
 {
     let this = f.this_address;
@@ -63,15 +51,15 @@ pub(crate) fn row_words(f: Frame) -> [u32; crate::ROW_WIDTH]
         code.a4,
         f.base_memory_page,
         f.code_page,
-        word_of_u16(f.sp),
-        word_of_u16(f.pc),
-        word_of_u16(f.exception_handler_location),
+        u32::from(f.sp),
+        u32::from(f.pc),
+        u32::from(f.exception_handler_location),
         f.ergs_remaining,
-        word_of_u8(f.this_shard_id),
-        word_of_u8(f.caller_shard_id),
-        word_of_u8(f.code_shard_id),
-        f.is_static as u32,
-        f.is_local_frame as u32,
+        u32::from(f.this_shard_id),
+        u32::from(f.caller_shard_id),
+        u32::from(f.code_shard_id),
+        u32::from(f.is_static),
+        u32::from(f.is_local_frame),
         low_word(context.low),
         high_word(context.low),
         low_word(context.high),
@@ -83,15 +71,13 @@ pub(crate) fn row_words(f: Frame) -> [u32; crate::ROW_WIDTH]
     ]
 }
 
-// Copies a row to the front of the part.
-fn copy_words(part: &mut [u32], row: [u32; crate::ROW_WIDTH])
+// Copies a row to the front of the part. `copy_from_slice` becomes a call here, which costs a cycle some thirty instructions.
+fn copy_words(part: &mut [u32], row: [u32; ROW_WIDTH])
     requires { row_width ≤ length part.old }
     ensures { part.new ≡ row ++ drop row_width part.old }
 {
-    let mut k = 0;
-    while k < crate::ROW_WIDTH {
+    for k in 0..ROW_WIDTH {
         part[k] = row[k];
-        k += 1;
     }
 }
 
@@ -100,12 +86,10 @@ pub(crate) fn write(part: &mut [u32], f: Frame)
     requires { row_width ≤ length part.old }
     ensures { part.new ≡ row_of f ++ drop row_width part.old }
 {
-    let row = row_words(f);
-    copy_words(part, row);
+    copy_words(part, row_words(f));
 }
 
-pub(crate) fn is_good(part: &[u32]) -> bool
-    requires { row_width ≤ length part.now }
+pub(crate) fn is_good(part: &[u32; ROW_WIDTH]) -> bool
     ensures { result ≡ good_words 16 part.now }
 {
     (part[17] < 0x1_0000)
@@ -124,8 +108,8 @@ fn pubdata_of(word: u32) -> PubdataCost
     PubdataCost(signed::from_word(word))
 }
 
-fn address_from(part: &[u32], k: usize) -> Address
-    requires { k + 5 ≤ length part.now }
+fn address_from(part: &[u32; ROW_WIDTH], k: usize) -> Address
+    requires { k + 5 ≤ row_width }
     ensures { result ≡ address_from part.now k }
 {
     Address {
@@ -142,13 +126,13 @@ fn u128_of(w0: u32, w1: u32, w2: u32, w3: u32) -> U128
     ensures { result ≡ u128_of w0 w1 w2 w3 }
 {
     U128 {
-        low: (w0 as u64) + 0x1_0000_0000 * (w1 as u64),
-        high: (w2 as u64) + 0x1_0000_0000 * (w3 as u64),
+        low: u64::from(w0) + 0x1_0000_0000 * u64::from(w1),
+        high: u64::from(w2) + 0x1_0000_0000 * u64::from(w3),
     }
 }
 
 // The frame of a good row.
-pub(crate) fn read(part: &[u32]) -> Frame
+pub(crate) fn read(part: &[u32; ROW_WIDTH]) -> Frame
     requires { Bounds 16 part.now }
     ensures { result ≡ frame_of part.now }
 {

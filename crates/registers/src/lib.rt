@@ -1,23 +1,19 @@
-// Registers by number: 0 is the empty value. Constant indices: an index that is not known costs the speed of each copy of the state.
+// Registers by number: 0 is the empty value. Constant indices: with one that is not known a cycle takes 749 instructions in place of 475 where registers are read,
+// and 1,447 where they are written too (docs/SPEED.md, opaque).
 #![tactic(auto)]
 
-ghost use Rattle.std.specs.Prelude.{◌≡◌, false, cond};
-ghost use Rattle.registers.specs.Registers.{empty_word, register_of, pointer_of, update_of};
+ghost use Rattle.std.specs.Prelude.{◌≡◌, cond};
+ghost use Rattle.registers.specs.Registers.{empty_word, select_of, register_of, pointer_of, update_of};
 
 use u256::U256;
 
 pub fn empty_word() -> U256
     ensures { result ≡ empty_word }
 {
-    U256 {
-        w0: 0,
-        w1: 0,
-        w2: 0,
-        w3: 0,
-    }
+    U256::default()
 }
 
-// Word by word: a choice between whole structs costs a factor of three.
+// Word by word: a choice between whole structs costs 475 instructions in place of 462 (docs/SPEED.md, staged).
 pub fn either_word(first: bool, a: U256, b: U256) -> U256
     ensures { result ≡ cond first a b }
 {
@@ -38,157 +34,62 @@ pub fn either_word(first: bool, a: U256, b: U256) -> U256
     }
 }
 
+fn select_or<T: Copy>(values: [T; 15], n: u8, empty: T) -> T
+    ensures { result ≡ select_of empty values n }
+{
+    match n {
+        1 => values[0],
+        2 => values[1],
+        3 => values[2],
+        4 => values[3],
+        5 => values[4],
+        6 => values[5],
+        7 => values[6],
+        8 => values[7],
+        9 => values[8],
+        10 => values[9],
+        11 => values[10],
+        12 => values[11],
+        13 => values[12],
+        14 => values[13],
+        15 => values[14],
+        _ => empty,
+    }
+}
+
 pub fn select(registers: [U256; 15], n: u8) -> U256
     ensures { result ≡ register_of registers n }
 {
-    match n {
-        1 => registers[0],
-        2 => registers[1],
-        3 => registers[2],
-        4 => registers[3],
-        5 => registers[4],
-        6 => registers[5],
-        7 => registers[6],
-        8 => registers[7],
-        9 => registers[8],
-        10 => registers[9],
-        11 => registers[10],
-        12 => registers[11],
-        13 => registers[12],
-        14 => registers[13],
-        15 => registers[14],
-        _ => empty_word(),
-    }
+    select_or(registers, n, empty_word())
 }
 
 pub fn select_pointer(pointers: [bool; 15], n: u8) -> bool
     ensures { result ≡ pointer_of pointers n }
 {
-    match n {
-        1 => pointers[0],
-        2 => pointers[1],
-        3 => pointers[2],
-        4 => pointers[3],
-        5 => pointers[4],
-        6 => pointers[5],
-        7 => pointers[6],
-        8 => pointers[7],
-        9 => pointers[8],
-        10 => pointers[9],
-        11 => pointers[10],
-        12 => pointers[11],
-        13 => pointers[12],
-        14 => pointers[13],
-        15 => pointers[14],
-        _ => false,
-    }
+    select_or(pointers, n, false)
 }
 
-// One return of the array at the end: a return in each arm costs a factor of seven.
-pub fn update(mut registers: [U256; 15], n: u8, value: U256) -> [U256; 15]
-    ensures { result ≡ update_of empty_word registers n value }
+// Number 0 stays the empty value, whichever that is. One return of the array at the end: a return in each arm costs a factor of seven.
+pub fn update<T: Copy>(mut values: [T; 15], n: u8, value: T) -> [T; 15]
+    ensures { (empty : T) → result ≡ update_of empty values n value }
 {
     match n {
-        1 => {
-            registers[0] = value;
-        }
-        2 => {
-            registers[1] = value;
-        }
-        3 => {
-            registers[2] = value;
-        }
-        4 => {
-            registers[3] = value;
-        }
-        5 => {
-            registers[4] = value;
-        }
-        6 => {
-            registers[5] = value;
-        }
-        7 => {
-            registers[6] = value;
-        }
-        8 => {
-            registers[7] = value;
-        }
-        9 => {
-            registers[8] = value;
-        }
-        10 => {
-            registers[9] = value;
-        }
-        11 => {
-            registers[10] = value;
-        }
-        12 => {
-            registers[11] = value;
-        }
-        13 => {
-            registers[12] = value;
-        }
-        14 => {
-            registers[13] = value;
-        }
-        15 => {
-            registers[14] = value;
-        }
+        1 => values[0] = value,
+        2 => values[1] = value,
+        3 => values[2] = value,
+        4 => values[3] = value,
+        5 => values[4] = value,
+        6 => values[5] = value,
+        7 => values[6] = value,
+        8 => values[7] = value,
+        9 => values[8] = value,
+        10 => values[9] = value,
+        11 => values[10] = value,
+        12 => values[11] = value,
+        13 => values[12] = value,
+        14 => values[13] = value,
+        15 => values[14] = value,
         _ => {}
     }
-    registers
-}
-
-pub fn update_pointer(mut pointers: [bool; 15], n: u8, value: bool) -> [bool; 15]
-    ensures { result ≡ update_of false pointers n value }
-{
-    match n {
-        1 => {
-            pointers[0] = value;
-        }
-        2 => {
-            pointers[1] = value;
-        }
-        3 => {
-            pointers[2] = value;
-        }
-        4 => {
-            pointers[3] = value;
-        }
-        5 => {
-            pointers[4] = value;
-        }
-        6 => {
-            pointers[5] = value;
-        }
-        7 => {
-            pointers[6] = value;
-        }
-        8 => {
-            pointers[7] = value;
-        }
-        9 => {
-            pointers[8] = value;
-        }
-        10 => {
-            pointers[9] = value;
-        }
-        11 => {
-            pointers[10] = value;
-        }
-        12 => {
-            pointers[11] = value;
-        }
-        13 => {
-            pointers[12] = value;
-        }
-        14 => {
-            pointers[13] = value;
-        }
-        15 => {
-            pointers[14] = value;
-        }
-        _ => {}
-    }
-    pointers
+    values
 }

@@ -1,5 +1,4 @@
 pub mod AddressLaws
-pub mod RetLaws
 pub mod RecordLaws
 pub mod RefusalLaws
 pub mod ChargeLaws

@@ -1,6 +1,6 @@
 -- Checks and the number of the first that holds. Assumes nothing.
 use Rattle.std.proofs.Common.{arith, ◌≡◌, ℕ, Bool, true, false, cond, not, ◌&&◌, ◌||◌, T, eqb, List, [], ◌∷◌}
-use Rattle.frame.specs.Refusal.{Check, first_of}
+use Rattle.refusal.specs.Refusal.{Check, first_of}
 
 -- neither of two
 pub or_parts : (a b : Bool) → (a || b) ≡ false → (a ≡ false) × (b ≡ false)

@@ -5,6 +5,7 @@ use Rattle.std.specs.Prelude.{ℕ, ◌+◌, ◌^◌, Bool, cond, ◌&&◌, ◌||
 use Rattle.u256.specs.declared.U256.{U256}
 use Rattle.u256.specs.U256.{low_of}
 use Rattle.u256.specs.Word.{wrapping_sum, wrapping_difference}
+use Rattle.rules.specs.declared.kinds.MemoryType.{MemoryType}
 use Rattle.rules.specs.declared.Record.{Record}
 use Rattle.rules.specs.declared.Location.{Location}
 use Rattle.rules.specs.declared.Located.{Located}
@@ -24,6 +25,10 @@ on_stack page index = Location.At 1 page index
 
 abbrev pub in_code : ℕ → ℕ → Location
 in_code page index = Location.At 2 page index
+
+abbrev pub location_in : MemoryType → ℕ → ℕ → Location
+location_in MemoryType.Stack page index = on_stack page index
+location_in MemoryType.Code page index = in_code page index
 
 -- refusal 14: "page of a stack kind", which "is base plus 1", above 32 bits
 abbrev pub lacks_stack_page : Record → ℕ → Bool

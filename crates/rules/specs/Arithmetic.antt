@@ -2,20 +2,19 @@
 -- 0, and greater where it is neither.
 use Rattle.std.specs.Prelude.{ℕ, Bool, cond, not, ◌&&◌, ◌==◌}
 use Rattle.u256.specs.declared.U256.{U256}
-use Rattle.u256.specs.declared.Overflowing.{Overflowing}
 use Rattle.u256.specs.U256.{sum_of, difference_of, is_zero}
 use Rattle.rules.specs.declared.Flags.{Flags}
 
 -- operation 1 is add
-abbrev pub result_of : ℕ → U256 → U256 → Overflowing
+abbrev pub result_of : ℕ → U256 → U256 → U256 × Bool
 result_of operation a b = cond (operation == 1) (sum_of a b) (difference_of a b)
 
-unfoldable pub flags_after : Bool → Flags → Overflowing → Flags
+unfoldable pub flags_after : Bool → Flags → U256 × Bool → Flags
 flags_after set old r =
     cond set
     (record {
-      overflow_or_less_than_flag = r.overflow;
-      equality_flag = is_zero r.value;
-      greater_than_flag = not (is_zero r.value) && not r.overflow;
+      overflow_or_less_than_flag = r.1;
+      equality_flag = is_zero r.0;
+      greater_than_flag = not (is_zero r.0) && not r.1;
     })
     old

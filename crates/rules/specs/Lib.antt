@@ -9,3 +9,4 @@ pub mod Sources
 pub mod NearCall
 pub mod Ret
 pub mod Arithmetic
+pub mod Kinds

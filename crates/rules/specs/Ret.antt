@@ -1,33 +1,32 @@
 -- The sums of a local return. Document 01: "return ok: pubdata sum outside 32 signed bits" (10); "revert counter after it (on ok, as it is) outside 32 signed bits or
 -- below 0" (11); "ergs sum above 4,294,967,295" (12); "a heap bound below the caller's" (13); "Return to label wins over the handler." Revert counts as panicked.
-use Rattle.std.specs.Prelude.{ℕ, ◌+◌, ◌^◌, Bool, true, false, cond, ◌||◌, [], ◌∷◌, ℤ, pos, negsuc, ◌==◌, nat_le, nat_lt}
-use Rattle.signed.specs.declared.Checked.{Checked}
+use Rattle.std.specs.Prelude.{ℕ, ◌+◌, ◌^◌, Bool, true, false, cond, ◌||◌, [], ◌∷◌, ℤ, pos, negsuc, Option, Some, None, ◌==◌, nat_le, nat_lt}
 use Rattle.signed.specs.Signed.{sum_of, difference_of}
 use Rattle.frame.specs.declared.Frame.{Frame}
 use Rattle.frame.specs.declared.PubdataCost.{PubdataCost}
 use Rattle.rules.specs.declared.Record.{Record}
-use Rattle.frame.specs.Refusal.{first_of, ◌refuses◌}
+use Rattle.refusal.specs.Refusal.{first_of, ◌refuses◌}
 
 -- the caller's pubdata afterwards, and the revert counter
-abbrev pub pubdata_after : Bool → ℤ → ℤ → Checked
-pubdata_after ok caller closed = cond ok (sum_of caller closed) (Checked.Fits caller)
+abbrev pub pubdata_after : Bool → ℤ → ℤ → Option ℤ
+pubdata_after ok caller closed = cond ok (sum_of caller closed) (Some caller)
 
-abbrev pub counter_after : Bool → ℤ → ℤ → Checked
-counter_after ok counter closed = cond ok (Checked.Fits counter) (difference_of counter closed)
+abbrev pub counter_after : Bool → ℤ → ℤ → Option ℤ
+counter_after ok counter closed = cond ok (Some counter) (difference_of counter closed)
 
-abbrev pub is_outside : Checked → Bool
-is_outside (Checked.Fits z) = false
-is_outside Checked.Outside = true
+abbrev pub is_outside : Option ℤ → Bool
+is_outside (Some z) = false
+is_outside None = true
 
-abbrev pub is_bad_counter : Checked → Bool
-is_bad_counter (Checked.Fits (pos n)) = false
-is_bad_counter (Checked.Fits (negsuc n)) = true
-is_bad_counter Checked.Outside = true
+abbrev pub is_bad_counter : Option ℤ → Bool
+is_bad_counter (Some (pos n)) = false
+is_bad_counter (Some (negsuc n)) = true
+is_bad_counter None = true
 
 -- the number, where it is not outside
-abbrev pub cost_of : Checked → PubdataCost
-cost_of (Checked.Fits z) = record { 0 = z }
-cost_of Checked.Outside = record { 0 = pos 0 }
+abbrev pub cost_of : Option ℤ → PubdataCost
+cost_of (Some z) = record { 0 = z }
+cost_of None = record { 0 = pos 0 }
 
 abbrev pub return_pc : Bool → Bool → ℕ → ℕ → ℕ → ℕ
 return_pc ok label target handler saved = cond label target (cond ok saved handler)

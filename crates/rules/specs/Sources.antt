@@ -2,6 +2,7 @@
 -- source is the empty value"; refusal 6, "after the swap, pointer in a place that may not hold one, not kernel".
 use Rattle.std.specs.Prelude.{ℕ, Bool, false, cond, not, ◌&&◌, ◌||◌, List, ◌==◌}
 use Rattle.u256.specs.declared.U256.{U256}
+use Rattle.u256.specs.U256.{one_word}
 use Rattle.registers.specs.Registers.{empty_word, register_of, pointer_of}
 use Rattle.rules.specs.declared.Record.{Record}
 use Rattle.rules.specs.declared.PrimitiveValue.{PrimitiveValue}
@@ -9,7 +10,7 @@ use Rattle.rules.specs.declared.Sources.{Sources}
 use Rattle.rules.specs.Record.{is_nop}
 
 abbrev pub immediate : ℕ → PrimitiveValue
-immediate n = record { value = record { w0 = n; w1 = 0; w2 = 0; w3 = 0 }; is_pointer = false }
+immediate n = record { value = one_word n; is_pointer = false }
 
 abbrev pub empty_value : PrimitiveValue
 empty_value = record { value = empty_word; is_pointer = false }

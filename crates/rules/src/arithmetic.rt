@@ -3,12 +3,13 @@ ghost use Rattle.std.specs.Prelude.{◌≡◌};
 ghost use Rattle.rules.specs.Arithmetic.{result_of, flags_after};
 
 use crate::Flags;
-use u256::{Overflowing, U256};
+use crate::kinds::Operation;
+use u256::U256;
 
-pub fn result(operation: u8, a: U256, b: U256) -> Overflowing
+pub fn result(operation: u8, a: U256, b: U256) -> (U256, bool)
     ensures { result ≡ result_of operation a b }
 {
-    if operation == 1 {
+    if operation == Operation::Add as u8 {
         a.overflowing_add(b)
     } else {
         a.overflowing_sub(b)
@@ -16,16 +17,16 @@ pub fn result(operation: u8, a: U256, b: U256) -> Overflowing
 }
 
 #[tactic(auto, unfolding(crate::specs::Arithmetic::flags_after))]
-pub fn flags_after(set: bool, old: Flags, res: Overflowing) -> Flags
+pub fn flags_after(set: bool, old: Flags, res: (U256, bool)) -> Flags
     ensures { result ≡ flags_after set old res }
 {
-    let value = res.value;
+    let (value, overflow) = res;
     let zero = value.is_zero();
     if set {
         Flags {
-            overflow_or_less_than_flag: res.overflow,
+            overflow_or_less_than_flag: overflow,
             equality_flag: zero,
-            greater_than_flag: !zero & !res.overflow,
+            greater_than_flag: !zero & !overflow,
         }
     } else {
         Flags {

@@ -1,8 +1,9 @@
 // Decode's rules: price, charge, error flags, conditions.
-ghost use Rattle.std.specs.Prelude.{◌≡◌, ◌-◌, min};
+ghost use Rattle.std.specs.Prelude.{◌≡◌};
 ghost use Rattle.rules.specs.Charge.{price_of, error_flags, any_error};
 ghost use Rattle.rules.specs.Condition.{condition_holds};
 
+use crate::kinds::Condition;
 use crate::{ErrorFlags, Flags, Record};
 use frame::Frame;
 
@@ -11,19 +12,6 @@ pub fn price_of(ended: bool, price: u32) -> u32
     ensures { result ≡ price_of ended price }
 {
     if ended { 0 } else { price }
-}
-
-pub fn smaller(a: u32, b: u32) -> u32
-    ensures { result ≡ min a b }
-{
-    if a <= b { a } else { b }
-}
-
-// a less b, and 0 where b is larger.
-pub fn less(a: u32, b: u32) -> u32
-    ensures { result ≡ a - b }
-{
-    if b <= a { a - b } else { 0 }
 }
 
 #[tactic(auto, unfolding(crate::specs::Charge::error_flags))]
@@ -57,15 +45,15 @@ pub fn any_error(e: ErrorFlags) -> bool
 pub fn condition_holds(condition: u8, flags: Flags) -> bool
     ensures { result ≡ condition_holds condition flags }
 {
-    match condition {
-        0 => true,
-        1 => flags.greater_than_flag,
-        2 => flags.overflow_or_less_than_flag,
-        3 => flags.equality_flag,
-        4 => flags.greater_than_flag | flags.equality_flag,
-        5 => flags.overflow_or_less_than_flag | flags.equality_flag,
-        6 => !flags.equality_flag,
-        7 => flags.greater_than_flag | flags.overflow_or_less_than_flag,
-        _ => false,
+    match Condition::try_from(condition) {
+        Ok(Condition::Always) => true,
+        Ok(Condition::Gt) => flags.greater_than_flag,
+        Ok(Condition::Lt) => flags.overflow_or_less_than_flag,
+        Ok(Condition::Eq) => flags.equality_flag,
+        Ok(Condition::Ge) => flags.greater_than_flag | flags.equality_flag,
+        Ok(Condition::Le) => flags.overflow_or_less_than_flag | flags.equality_flag,
+        Ok(Condition::Ne) => !flags.equality_flag,
+        Ok(Condition::GtOrLt) => flags.greater_than_flag | flags.overflow_or_less_than_flag,
+        Err(_) => false,
     }
 }

@@ -4,14 +4,14 @@
 pub mod arithmetic;
 pub mod decode;
 pub mod fetch;
+pub mod kinds;
 pub mod mem_ops;
 pub mod near_call;
 pub mod parsing;
-pub mod refusal;
 pub mod ret;
 pub mod select;
+pub mod sizes;
 pub mod time;
-pub mod wrapping;
 
 use u256::U256;
 
@@ -24,7 +24,7 @@ pub struct Settings {
 }
 
 // An instruction. Kinds and registers are numbers, so that a record can be refused; the order leaves no hole.
-#[derive(Clone, Copy)]
+#[derive(Clone, Copy, Default)]
 pub struct Record {
     pub operation: u8,
     pub return_kind: u8,
@@ -55,7 +55,7 @@ pub struct Records {
     pub nop: Record,
 }
 
-#[derive(Clone, Copy)]
+#[derive(Clone, Copy, Default)]
 pub struct Flags {
     pub overflow_or_less_than_flag: bool,
     pub equality_flag: bool,
@@ -73,6 +73,7 @@ pub struct ErrorFlags {
 }
 
 // No location, or a memory kind (1 stack, 2 code), a page and an index. The narrow field first: a hole before it slows each copy down.
+// No `Option` of a struct, which has 16 bytes in the state and not 12, and whose kind is a number since a state with any number has to be answered.
 #[derive(Clone, Copy)]
 pub enum Location {
     None,

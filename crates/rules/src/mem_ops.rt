@@ -1,22 +1,25 @@
 // Where an operand lies, after the Rust's `mem_ops.rs`.
 ghost use Rattle.std.specs.Prelude.{◌≡◌, if◌then◌else◌, nat_le};
 ghost use Rattle.registers.specs.Registers.{register_of};
-ghost use Rattle.rules.specs.Address.{vaddr_of, is_stack_kind, lacks_stack_page, source_at, destination_at, source_read, places_of};
+ghost use Rattle.rules.specs.Address.{location_in, vaddr_of, is_stack_kind, lacks_stack_page, source_at, destination_at, source_read, places_of};
 
-use crate::{Located, Location, Places, Record, parsing, wrapping};
+use crate::kinds::{MemoryType, OperandKind};
+use crate::{Located, Location, Places, Record, parsing};
 use u256::U256;
 
 // The low 16 bits of the register plus the immediate.
 pub fn vaddr(register: U256, imm: u16) -> u16
     ensures { result ≡ vaddr_of 16 register imm }
 {
-    wrapping::wrapping_add(register.low_u16(), imm)
+    register.low_u16().wrapping_add(imm)
 }
 
 pub fn is_stack_kind(kind: u8) -> bool
     ensures { result ≡ is_stack_kind kind }
 {
-    (kind == 2) | (kind == 3) | (kind == 5)
+    (kind == OperandKind::PushPop as u8)
+        | (kind == OperandKind::StackOffset as u8)
+        | (kind == OperandKind::AbsoluteStack as u8)
 }
 
 // A stack kind, and a stack page of more than 32 bits.
@@ -30,13 +33,13 @@ pub fn lacks_stack_page(r: Record, base: u32) -> bool
     is_stack_kind(r.source_kind) | is_stack_kind(r.destination_kind)
 }
 
-fn at(memory_type: u8, page: u32, index: u16) -> Location
-    ensures { result ≡ Location.At memory_type page index }
+fn at(memory_type: MemoryType, page: u32, index: u16) -> Location
+    ensures { result ≡ location_in memory_type page index }
 {
     Location::At {
-        memory_type,
+        memory_type: memory_type as u8,
         page,
-        index: index as u32,
+        index: u32::from(index),
     }
 }
 
@@ -45,22 +48,22 @@ fn at(memory_type: u8, page: u32, index: u16) -> Location
 pub fn source_at(kind: u8, stack_page: u32, code_page: u32, sp: u16, vaddr: u16) -> Located
     ensures { result ≡ source_at 16 kind stack_page code_page sp vaddr }
 {
-    let popped = wrapping::wrapping_sub(sp, vaddr);
-    match kind {
-        2 => Located {
-            location: at(1, stack_page, popped),
+    let popped = sp.wrapping_sub(vaddr);
+    match OperandKind::try_from(kind) {
+        Ok(OperandKind::PushPop) => Located {
+            location: at(MemoryType::Stack, stack_page, popped),
             sp: popped,
         },
-        3 => Located {
-            location: at(1, stack_page, popped),
+        Ok(OperandKind::StackOffset) => Located {
+            location: at(MemoryType::Stack, stack_page, popped),
             sp,
         },
-        4 => Located {
-            location: at(2, code_page, vaddr),
+        Ok(OperandKind::CodePage) => Located {
+            location: at(MemoryType::Code, code_page, vaddr),
             sp,
         },
-        5 => Located {
-            location: at(1, stack_page, vaddr),
+        Ok(OperandKind::AbsoluteStack) => Located {
+            location: at(MemoryType::Stack, stack_page, vaddr),
             sp,
         },
         _ => Located {
@@ -75,19 +78,19 @@ pub fn source_at(kind: u8, stack_page: u32, code_page: u32, sp: u16, vaddr: u16)
 pub fn destination_at(kind: u8, stack_page: u32, sp: u16, vaddr: u16) -> Located
     ensures { result ≡ destination_at 16 kind stack_page sp vaddr }
 {
-    let below = wrapping::wrapping_sub(sp, vaddr);
-    let above = wrapping::wrapping_add(sp, vaddr);
-    match kind {
-        2 => Located {
-            location: at(1, stack_page, sp),
+    let below = sp.wrapping_sub(vaddr);
+    let above = sp.wrapping_add(vaddr);
+    match OperandKind::try_from(kind) {
+        Ok(OperandKind::PushPop) => Located {
+            location: at(MemoryType::Stack, stack_page, sp),
             sp: above,
         },
-        3 => Located {
-            location: at(1, stack_page, below),
+        Ok(OperandKind::StackOffset) => Located {
+            location: at(MemoryType::Stack, stack_page, below),
             sp,
         },
-        5 => Located {
-            location: at(1, stack_page, vaddr),
+        Ok(OperandKind::AbsoluteStack) => Located {
+            location: at(MemoryType::Stack, stack_page, vaddr),
             sp,
         },
         _ => Located {
@@ -108,7 +111,7 @@ fn read_of(nop: bool, source: Location) -> Location
 fn memory_vaddr(kind: u8, registers: [U256; 15], n: u8, imm: u16) -> u16
     ensures { result ≡ (if nat_le kind 1 then 0 else vaddr_of 16 (register_of registers n) imm) }
 {
-    if kind <= 1 {
+    if kind <= OperandKind::Immediate as u8 {
         return 0;
     }
     vaddr(registers::select(registers, n), imm)

@@ -8,12 +8,7 @@ use frame::{Frame, PubdataCost};
 pub fn wanted_ergs(want: u32, multiplier: u32) -> u32
     ensures { result ≡ wanted_ergs want multiplier }
 {
-    let product = (want as u64) * (multiplier as u64);
-    if product <= 0xffff_ffff {
-        product as u32
-    } else {
-        0xffff_ffff
-    }
+    want.saturating_mul(multiplier)
 }
 
 pub fn passed_ergs(wanted: u32, held: u32) -> u32

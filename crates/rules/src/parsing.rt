@@ -1,16 +1,35 @@
 // Records: the lists of their fields, and the choice of the one that is kept.
-ghost use Rattle.std.specs.Prelude.{◌≡◌, if◌then◌else◌};
+ghost use Rattle.std.specs.Prelude.{◌≡◌, if◌then◌else◌, nat_le};
 ghost use Rattle.rules.specs.Record.{good_kinds, good_registers, good_record, is_panic, is_nop, bad_records};
 
+use crate::kinds::{Condition, OperandKind, Operation, ReturnKind};
 use crate::{Record, Records};
+
+fn is_operation(r: Record) -> bool
+    ensures { result ≡ nat_le r.operation 5 }
+{
+    r.operation <= Operation::Other as u8
+}
+
+fn is_return_kind(r: Record) -> bool
+    ensures { result ≡ nat_le r.return_kind 2 }
+{
+    r.return_kind <= ReturnKind::Panic as u8
+}
+
+fn is_condition(r: Record) -> bool
+    ensures { result ≡ nat_le r.condition 7 }
+{
+    r.condition <= Condition::GtOrLt as u8
+}
 
 fn good_kinds(r: Record) -> bool
     ensures { result ≡ good_kinds r }
 {
-    (r.source_kind <= 5)
-        & (r.destination_kind <= 5)
-        & !(r.destination_kind == 1)
-        & !(r.destination_kind == 4)
+    (r.source_kind <= OperandKind::AbsoluteStack as u8)
+        & (r.destination_kind <= OperandKind::AbsoluteStack as u8)
+        & !(r.destination_kind == OperandKind::Immediate as u8)
+        & !(r.destination_kind == OperandKind::CodePage as u8)
 }
 
 fn good_registers(r: Record) -> bool
@@ -22,23 +41,19 @@ fn good_registers(r: Record) -> bool
 pub fn good_record(r: Record) -> bool
     ensures { result ≡ good_record r }
 {
-    (r.operation <= 5)
-        & (r.return_kind <= 2)
-        & (r.condition <= 7)
-        & good_kinds(r)
-        & good_registers(r)
+    is_operation(r) & is_return_kind(r) & is_condition(r) & good_kinds(r) & good_registers(r)
 }
 
 pub fn is_panic(r: Record) -> bool
     ensures { result ≡ is_panic r }
 {
-    (r.operation == 4) & (r.return_kind == 2)
+    (r.operation == Operation::Ret as u8) & (r.return_kind == ReturnKind::Panic as u8)
 }
 
 pub fn is_nop(r: Record) -> bool
     ensures { result ≡ is_nop r }
 {
-    r.operation == 0
+    r.operation == Operation::Nop as u8
 }
 
 // Refusal 3 of decode. The last three say whether execution has ended, an exception is pending, and decode sets some flag. What a panic and a nop record are has
@@ -51,13 +66,13 @@ pub fn bad_records(r: Records, ended: bool, pending: bool, flagged: bool) -> boo
     let plain = r.plain;
     let panic = r.panic;
     let nop = r.nop;
-    if !((plain.operation <= 5) & (plain.return_kind <= 2) & (plain.condition <= 7)) {
+    if !(is_operation(plain) & is_return_kind(plain) & is_condition(plain)) {
         return true;
     }
-    if !is_panic(panic) | !(panic.condition <= 7) {
+    if !is_panic(panic) | !is_condition(panic) {
         return true;
     }
-    if !is_nop(nop) | !(nop.return_kind <= 2) | !(nop.condition <= 7) {
+    if !is_nop(nop) | !is_return_kind(nop) | !is_condition(nop) {
         return true;
     }
     if !good_kinds(plain) {

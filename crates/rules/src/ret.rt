@@ -1,10 +1,12 @@
 // The sums of a local return.
 ghost use Rattle.std.specs.Prelude.{◌≡◌, true, cond, ◌||◌, pos, if◌then◌else◌, nat_eq};
+ghost use Rattle.refusal.specs.declared.Refusal.{Refusal};
 ghost use Rattle.rules.specs.Ret.{pubdata_after, counter_after, is_outside, is_bad_counter, cost_of, return_pc, ergs_past, is_shrunk, resumed_with};
 
 use crate::Record;
+use crate::kinds::ReturnKind;
 use frame::{Frame, PubdataCost};
-use signed::Checked;
+use refusal::Refusal;
 
 // Most frames spend no pubdata: then neither sum has to be made.
 fn is_none(cost: PubdataCost) -> bool
@@ -14,54 +16,47 @@ fn is_none(cost: PubdataCost) -> bool
 }
 
 // The caller's pubdata: on ok the closed frame's is added.
-pub fn pubdata_after(ok: bool, caller: PubdataCost, closed: PubdataCost) -> Checked
+#[tactic(auto, unfolding(signed::specs::Signed::checked_of))]
+pub fn pubdata_after(ok: bool, caller: PubdataCost, closed: PubdataCost) -> Option<i32>
     ensures { result ≡ pubdata_after ok caller.0 closed.0 }
 {
     if ok & !is_none(closed) {
         signed::checked_add(caller.0, closed.0)
     } else {
-        Checked::Fits(caller.0)
+        Some(caller.0)
     }
 }
 
 // The revert counter: on revert and panic the closed frame's pubdata is taken off.
-pub fn counter_after(ok: bool, counter: PubdataCost, closed: PubdataCost) -> Checked
+#[tactic(auto, unfolding(signed::specs::Signed::checked_of))]
+pub fn counter_after(ok: bool, counter: PubdataCost, closed: PubdataCost) -> Option<i32>
     ensures { result ≡ counter_after ok counter.0 closed.0 }
 {
     if ok | is_none(closed) {
-        Checked::Fits(counter.0)
+        Some(counter.0)
     } else {
         signed::checked_sub(counter.0, closed.0)
     }
 }
 
-pub fn is_outside(c: Checked) -> bool
+pub fn is_outside(c: Option<i32>) -> bool
     ensures { result ≡ is_outside c }
 {
-    match c {
-        Checked::Fits(_) => false,
-        Checked::Outside => true,
-    }
+    c.is_none()
 }
 
 // Outside, or below 0.
-pub fn is_bad_counter(c: Checked) -> bool
+pub fn is_bad_counter(c: Option<i32>) -> bool
     ensures { result ≡ is_bad_counter c }
 {
-    match c {
-        Checked::Fits(n) => n < 0,
-        Checked::Outside => true,
-    }
+    c.is_none_or(|n| n < 0)
 }
 
 // The number, or 0 where it is outside.
-pub fn cost_of(c: Checked) -> PubdataCost
+pub fn cost_of(c: Option<i32>) -> PubdataCost
     ensures { result ≡ cost_of c }
 {
-    match c {
-        Checked::Fits(n) => PubdataCost(n),
-        Checked::Outside => PubdataCost(0),
-    }
+    PubdataCost(c.unwrap_or(0))
 }
 
 // A label wins over the handler.
@@ -80,7 +75,7 @@ pub fn return_pc(ok: bool, label: bool, target: u16, handler: u16, saved: u16) -
 pub fn ergs_past(caller: u32, closed: u32) -> bool
     ensures { result ≡ ergs_past caller closed }
 {
-    0xffff_ffff < (caller as u64) + (closed as u64)
+    caller.checked_add(closed).is_none()
 }
 
 pub fn is_shrunk(caller: Frame, closed: Frame) -> bool
@@ -91,8 +86,8 @@ pub fn is_shrunk(caller: Frame, closed: Frame) -> bool
 
 // Whether one of refusals 10 to 14 holds; the sums of pubdata are made before.
 pub fn is_close_refused(
-    spent: Checked,
-    reverted: Checked,
+    spent: Option<i32>,
+    reverted: Option<i32>,
     caller: Frame,
     closed: Frame,
     late: bool,
@@ -106,31 +101,27 @@ pub fn is_close_refused(
     ergs_past(caller.ergs_remaining, closed.ergs_remaining) | is_shrunk(caller, closed) | late
 }
 
-fn first_of(outside: bool, bad: bool, past: bool, shrunk: bool) -> u32
-    ensures { result ≡ (if outside then 10 else (if bad then 11 else (if past then 12 else (if shrunk then 13 else 14)))) }
+// The first of them, one of which holds.
+pub fn close_refusal(
+    spent: Option<i32>,
+    reverted: Option<i32>,
+    caller: Frame,
+    closed: Frame,
+) -> Refusal
+    ensures { result ≡ (if is_outside spent then Refusal.PubdataSum else (if is_bad_counter reverted then Refusal.RevertCounter
+        else (if ergs_past caller.ergs_remaining closed.ergs_remaining then Refusal.ErgsSum
+        else (if is_shrunk caller closed then Refusal.HeapBound else Refusal.Above32Bits)))) }
 {
-    if outside {
-        10
-    } else if bad {
-        11
-    } else if past {
-        12
-    } else if shrunk {
-        13
-    } else {
-        14
-    }
-}
-
-// The number of the first of them, one of which holds. It is never 0.
-pub fn close_number(spent: Checked, reverted: Checked, caller: Frame, closed: Frame) -> u32
-    ensures { result ≡ (if is_outside spent then 10 else cond (is_bad_counter reverted) 11
-        (if ergs_past caller.ergs_remaining closed.ergs_remaining then 12 else (if is_shrunk caller closed then 13 else 14))) }
-{
-    let outside = is_outside(spent);
-    let bad = is_bad_counter(reverted);
     let past = ergs_past(caller.ergs_remaining, closed.ergs_remaining);
-    first_of(outside, bad, past, is_shrunk(caller, closed))
+    refusal::first_after(
+        &[
+            (is_outside(spent), Refusal::PubdataSum),
+            (is_bad_counter(reverted), Refusal::RevertCounter),
+            (past, Refusal::ErgsSum),
+            (is_shrunk(caller, closed), Refusal::HeapBound),
+        ],
+        Refusal::Above32Bits,
+    )
 }
 
 #[tactic(auto, unfolding(crate::specs::Ret::resumed_with))]
@@ -149,13 +140,19 @@ fn resumed(caller: Frame, closed: Frame, pubdata: PubdataCost, ergs: u32, pc: u1
 }
 
 // The caller as it goes on with this pubdata and so many ergs.
-pub fn resumed_frame(r: Record, caller: Frame, closed: Frame, spent: Checked, ergs: u32) -> Frame
+pub fn resumed_frame(
+    r: Record,
+    caller: Frame,
+    closed: Frame,
+    spent: Option<i32>,
+    ergs: u32,
+) -> Frame
     ensures { result ≡ resumed_with caller closed (cost_of spent) ergs
         (return_pc (nat_eq r.return_kind 0) r.to_label r.imm_0 closed.exception_handler_location caller.pc) }
 {
     let cost = cost_of(spent);
     let pc = return_pc(
-        r.return_kind == 0,
+        r.return_kind == ReturnKind::Ok as u8,
         r.to_label,
         r.imm_0,
         closed.exception_handler_location,

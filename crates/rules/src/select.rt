@@ -2,7 +2,8 @@
 ghost use Rattle.std.specs.Prelude.{◌≡◌};
 ghost use Rattle.rules.specs.Sources.{first_source, sources_of, pointer_refused};
 
-use crate::{PrimitiveValue, Record, Sources};
+use crate::kinds::OperandKind;
+use crate::{PrimitiveValue, Record, Sources, parsing};
 use u256::U256;
 
 // By the source kind: the register, the immediate, or what was read; a nop reads nothing.
@@ -10,22 +11,16 @@ fn first_source(r: Record, register: PrimitiveValue, word: U256, pointer: bool) 
     ensures { result ≡ first_source r register word pointer }
 {
     let kind = r.source_kind;
-    if kind == 0 {
+    if kind == OperandKind::Register as u8 {
         return register;
     }
-    if kind == 1 {
-        let imm = U256 {
-            w0: r.imm_0 as u64,
-            w1: 0,
-            w2: 0,
-            w3: 0,
-        };
+    if kind == OperandKind::Immediate as u8 {
         return PrimitiveValue {
-            value: imm,
+            value: U256::from(u64::from(r.imm_0)),
             is_pointer: false,
         };
     }
-    if r.operation == 0 {
+    if parsing::is_nop(r) {
         return PrimitiveValue {
             value: registers::empty_word(),
             is_pointer: false,

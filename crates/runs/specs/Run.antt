@@ -1,16 +1,21 @@
 -- One line's cycle. Document 01: "multiplier 1, time step 4"; "It starts at depth 1 in a far frame, an ergs-free frame below. All of the state, records and words that
 -- no line sets is 0 or no, but for the masked records' operations and a call's register."
-use Rattle.std.specs.Prelude.{ℕ, ◌+◌, false, cond, List, eqb, replicate, set, get_or}
+use Rattle.std.specs.Prelude.{ℕ, ◌+◌, false, cond, List, Result, Ok, Err, replicate, set, get_or}
+use Rattle.u256.specs.U256.{one_word}
 use Rattle.frame.specs.Store.{saved_ergs}
 use Rattle.registers.specs.Registers.{empty_word}
 use Rattle.rules.specs.declared.Record.{Record}
 use Rattle.cycle.specs.declared.State.{State}
 use Rattle.stepper.specs.declared.Input.{Input}
 use Rattle.stepper.specs.declared.Cycled.{Cycled}
-use Rattle.stepper.specs.Start.{word, instruction, records_of, settings_of, start_state, empty_store}
-use Rattle.stepper.specs.Cycle.{cycle_of, cycle_store, cycle_number, cycle_charge}
-use Rattle.tally.specs.Tally.{enter_refusal, tally_after}
+use Rattle.stepper.specs.Start.{instruction, records_of, settings_of, start_state, empty_store}
+use Rattle.stepper.specs.declared.CycleAnswer.{CycleAnswer}
+use Rattle.stepper.specs.declared.CycleRefusal.{CycleRefusal}
+use Rattle.stepper.specs.Cycle.{cycle_of, cycle_store, is_done, cycle_charge}
+use Rattle.refusal.specs.declared.Refusal.{Refusal}
+use Rattle.tally.specs.Tally.{enter_of, tally_after}
 use Rattle.table.specs.declared.Op.{Op}
+use Rattle.table.specs.declared.Line.{Line}
 use Rattle.runs.specs.declared.Ran.{Ran}
 use Rattle.table.specs.declared.Row.{Row}
 
@@ -47,7 +52,7 @@ input_of limit op price = record {
 -- the request of a line in register 1
 unfoldable pub requested_state : State → ℕ → State
 requested_state s want = record {
-  registers = set s.registers 0 (word want);
+  registers = set s.registers 0 (one_word want);
   current = s.current;
   previous_code_word = s.previous_code_word;
   fetched_word = s.fetched_word;
@@ -65,38 +70,36 @@ requested_state s want = record {
   pending_exception = s.pending_exception;
 }
 
-abbrev pub cycle_in : ℕ → Op → ℕ → ℕ → Run → Cycled
-cycle_in limit op price want b = cycle_of (input_of limit op price) (requested_state b.state want) b.store
+abbrev pub cycle_in : ℕ → Line → Run → Cycled
+cycle_in limit line b = cycle_of (input_of limit line.op line.price) (requested_state b.state line.want) b.store
 
--- the tally's refusal for a finished cycle, or 0
-abbrev pub entry_refusal : ℕ → ℕ → List ℕ → Cycled → ℕ
-entry_refusal limit before tally c = enter_refusal tally limit before c.state.depth (cycle_charge c.answer)
+-- the refusal of the cycle, or, where it is finished, the tally's answer to its entry
+abbrev pub entry_of : ℕ → ℕ → List ℕ → Cycled → Result CycleAnswer CycleRefusal → Result (Unit {0}) Refusal
+entry_of limit before tally c (Ok answer) = enter_of tally limit before c.state.depth (cycle_charge c.answer)
+entry_of limit before tally c (Err refused) = Err refused.refusal
 
--- what a line's cycle gives: the refusal of the cycle or of its entry, 0 where there is none
-unfoldable pub ran_of : ℕ → Op → ℕ → ℕ → Run → Ran
-ran_of limit op price want b = record {
-  state = (cycle_in limit op price want b).state;
-  number =
-      cond (eqb (cycle_number (cycle_in limit op price want b).answer) 0)
-      (entry_refusal limit b.state.depth b.tally (cycle_in limit op price want b))
-      (cycle_number (cycle_in limit op price want b).answer);
-  charge = cycle_charge (cycle_in limit op price want b).answer;
+-- what a line's cycle gives
+unfoldable pub ran_of : ℕ → Line → Run → Ran
+ran_of limit line b = record {
+  state = (cycle_in limit line b).state;
+  charge = cycle_charge (cycle_in limit line b).answer;
+  answer = entry_of limit b.state.depth b.tally (cycle_in limit line b) (cycle_in limit line b).answer;
 }
 
-unfoldable pub store_after : ℕ → Op → ℕ → ℕ → Run → List ℕ
-store_after limit op price want b = cycle_store (input_of limit op price) (requested_state b.state want) b.store
+unfoldable pub store_after : ℕ → Line → Run → List ℕ
+store_after limit line b = cycle_store (input_of limit line.op line.price) (requested_state b.state line.want) b.store
 
-unfoldable pub entries_after : ℕ → Op → ℕ → ℕ → Run → List ℕ
-entries_after limit op price want b =
-    cond (eqb (cycle_number (cycle_in limit op price want b).answer) 0)
-    (tally_after b.tally limit b.state.depth (cycle_in limit op price want b).state.depth (cycle_charge (cycle_in limit op price want b).answer))
+unfoldable pub entries_after : ℕ → Line → Run → List ℕ
+entries_after limit line b =
+    cond (is_done (cycle_in limit line b).answer)
+    (tally_after b.tally limit b.state.depth (cycle_in limit line b).state.depth (cycle_charge (cycle_in limit line b).answer))
     b.tally
 
-abbrev pub run_after : ℕ → Op → ℕ → ℕ → Run → Run
-run_after limit op price want b = record {
-  state = (ran_of limit op price want b).state;
-  store = store_after limit op price want b;
-  tally = entries_after limit op price want b;
+abbrev pub run_after : ℕ → Line → Run → Run
+run_after limit line b = record {
+  state = (ran_of limit line b).state;
+  store = store_after limit line b;
+  tally = entries_after limit line b;
 }
 
 -- "cycle number, op read, charge, depth after, ergs of the current frame, ergs of all frames, its tally"

@@ -4,20 +4,20 @@
 ghost use Rattle.std.specs.Prelude.{◌≡◌, ◌+◌, get_or};
 ghost use Rattle.frame.specs.Store.{saved_ergs};
 ghost use Rattle.runs.specs.Run.{op_record, input_of, requested_state, ran_of, store_after, entries_after, printed_row};
-ghost use Rattle.tally.specs.Tally.{enter_refusal, tally_after};
 
 use cycle::State;
+use refusal::Refusal;
 use rules::Record;
 use stepper::Input;
-use table::{Op, Row};
-use tally::EnterAnswer;
+use table::{Line, Op, Row};
+use u256::U256;
 
-// What a line's cycle gives; the number is that of a refusal, or 0.
+// What a line's cycle gives, and whether it was refused.
 #[derive(Clone, Copy)]
 pub struct Ran {
     pub state: State,
-    pub number: u32,
     pub charge: u32,
+    pub answer: Result<(), Refusal>,
 }
 
 fn record_of(op: Op, price: u32) -> Record
@@ -53,58 +53,31 @@ pub fn input_of(limit: u32, op: Op, price: u32) -> Input
 pub fn requested(mut state: State, want: u32) -> State
     ensures { result ≡ requested_state state want }
 {
-    let word = stepper::word(want as u64);
-    state.registers[0] = word;
+    state.registers[0] = U256::from(u64::from(want));
     state
-}
-
-// Enters a charge; the number is that of its refusal, or 0.
-fn enter_number(tally: &mut [u64], limit: u32, before: u32, after: u32, charge: u32) -> u32
-    ensures { (result ≡ enter_refusal tally.old limit before after charge)
-        × (tally.new ≡ tally_after tally.old limit before after charge) }
-{
-    let answer = tally::enter(tally, limit, before, after, charge);
-    match answer {
-        EnterAnswer::Entered => 0,
-        EnterAnswer::Refused(n) => n,
-    }
 }
 
 // The cycle of a line, and its entry in the tally. A stage's refusal leaves the state that the stage was given, in mid-cycle; the tally's leaves the finished cycle.
 #[tactic(auto, unfolding(crate::specs::Run::ran_of, crate::specs::Run::store_after, crate::specs::Run::entries_after))]
-pub fn run_line(
-    state: State,
-    limit: u32,
-    store: &mut [u32],
-    tally: &mut [u64],
-    op: Op,
-    price: u32,
-    want: u32,
-) -> Ran
-    ensures { (result ≡ ran_of limit op price want (record { state = state; store = store.old; tally = tally.old }))
-        × (store.new ≡ store_after limit op price want (record { state = state; store = store.old; tally = tally.old }))
-        × (tally.new ≡ entries_after limit op price want (record { state = state; store = store.old; tally = tally.old })) }
+pub fn run_line(state: State, limit: u32, store: &mut [u32], tally: &mut [u64], line: Line) -> Ran
+    ensures { (result ≡ ran_of limit line (record { state = state; store = store.old; tally = tally.old }))
+        × (store.new ≡ store_after limit line (record { state = state; store = store.old; tally = tally.old }))
+        × (tally.new ≡ entries_after limit line (record { state = state; store = store.old; tally = tally.old })) }
 {
     let before = state.depth;
-    let input = input_of(limit, op, price);
-    let given = requested(state, want);
+    let input = input_of(limit, line.op, line.price);
+    let given = requested(state, line.want);
     let cycled = stepper::cycle(given, input, store);
-    let answer = cycled.answer;
     let after = cycled.state;
-    let number = stepper::cycle_number(answer);
-    let charge = stepper::cycle_charge(answer);
-    if number != 0 {
-        return Ran {
-            state: after,
-            number,
-            charge,
-        };
-    }
-    let entered = enter_number(tally, limit, before, after.depth, charge);
+    let charge = stepper::cycle_charge(cycled.answer);
+    let answer = match cycled.answer {
+        Ok(_) => tally::enter(tally, limit, before, after.depth, charge),
+        Err(refused) => Err(refused.refusal),
+    };
     Ran {
         state: after,
-        number: entered,
         charge,
+        answer,
     }
 }
 
@@ -120,7 +93,7 @@ fn total_of(held: u32, store: &[u32], depth: u32) -> u64
     ensures { result ≡ held + saved_ergs depth store.now }
 {
     let saved = frame::saved_ergs(store, depth);
-    held as u64 + saved
+    u64::from(held) + saved
 }
 
 #[tactic(auto, unfolding(crate::specs::Run::printed_row))]

@@ -1,11 +1,10 @@
 -- Two's complement words, and numbers that fit. Assumes nothing.
-use Rattle.std.proofs.Common.{◌≡◌, ℕ, ◌^◌, ◌<◌, true, ℤ, FitsSigned, w32, arith}
+use Rattle.std.proofs.Common.{◌≡◌, ℕ, ◌^◌, ◌<◌, true, Some, ℤ, FitsSigned, w32, arith}
 use Rattle.std.proofs.lemmas.Grind.{common_steps}
-use Rattle.signed.specs.declared.Checked.{Checked}
 use Rattle.signed.specs.Signed.{fits_signed, checked_of, word_of, signed_of}
 
 -- a number that fits is its own answer
-pub fitting : (z : ℤ) → FitsSigned w32 z → Checked.Fits z ≡ checked_of z
+pub fitting : (z : ℤ) → FitsSigned w32 z → Some z ≡ checked_of z
 unfolding checked_of
 fitting z f = grind (arith, common_steps)
 

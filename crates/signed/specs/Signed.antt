@@ -1,22 +1,20 @@
 -- Signed numbers of w bits. Document 01: "`total_pubdata_spent` is signed and may be negative; its word is two's complement", and refusals 10 and 11,
 -- "outside 32 signed bits".
-use Rattle.std.specs.Prelude.{ℕ, suc, ◌-◌, ◌/◌, ◌^◌, Bool, cond, ltb, ℤ, pos, negsuc, ◌+ℤ◌, ◌-ℤ◌}
-use Rattle.signed.specs.declared.Checked.{Checked}
-use Rattle.signed.specs.declared.Checked.TheVariants.{Fits, Outside}
+use Rattle.std.specs.Prelude.{ℕ, suc, ◌-◌, ◌/◌, ◌^◌, Bool, cond, ltb, ℤ, pos, negsuc, ◌+ℤ◌, ◌-ℤ◌, Option, Some, None}
 
 -- from - 2 ^ w / 2 to 2 ^ w / 2 - 1; `negsuc n` is - (n + 1)
 abbrev pub fits_signed : ℕ → ℤ → Bool
 fits_signed w (pos n) = ltb n (2 ^ w / 2)
 fits_signed w (negsuc n) = ltb n (2 ^ w / 2)
 
--- the answer for a number: itself within 32 signed bits, `Outside` elsewhere
-unfoldable pub checked_of : ℤ → Checked
-checked_of z = cond (fits_signed 32 z) (Fits z) Outside
+-- the answer for a number: itself within 32 signed bits, `None` outside
+unfoldable pub checked_of : ℤ → Option ℤ
+checked_of z = cond (fits_signed 32 z) (Some z) None
 
-abbrev pub sum_of : ℤ → ℤ → Checked
+abbrev pub sum_of : ℤ → ℤ → Option ℤ
 sum_of a b = checked_of (a +ℤ b)
 
-abbrev pub difference_of : ℤ → ℤ → Checked
+abbrev pub difference_of : ℤ → ℤ → Option ℤ
 difference_of a b = checked_of (a -ℤ b)
 
 -- the two's complement word of w bits: of z below 0, 2 ^ w + z

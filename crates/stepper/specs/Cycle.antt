@@ -1,6 +1,8 @@
 -- A whole cycle. Document 01: "A cycle is a fetch, decode, operands and execute of the list, all finished, in turn". Each stage is given the state that the one before
 -- it handed back; the first refusal ends it.
-use Rattle.std.specs.Prelude.{ℕ, Bool, cond, ◌&&◌, List, eqb}
+use Rattle.std.specs.Prelude.{ℕ, Bool, true, false, cond, ◌&&◌, List, Result, Ok, Err}
+use Rattle.refusal.specs.declared.Refusal.{Refusal}
+use Rattle.refusal.specs.Refusal.{paper_number}
 use Rattle.cycle.specs.declared.State.{State}
 use Rattle.cycle.specs.declared.Fetched.{Fetched}
 use Rattle.cycle.specs.declared.Decoded.{Decoded}
@@ -11,10 +13,11 @@ use Rattle.cycle.specs.Fetch.{query_of, fetch_of}
 use Rattle.cycle.specs.Decode.{decode_of}
 use Rattle.cycle.specs.Operands.{operands_of}
 use Rattle.cycle.specs.Execute.{execute_of, execute_store}
-use Rattle.cycle.specs.Answers.{fetch_number, decode_number, operands_number, execute_number}
 use Rattle.stepper.specs.declared.Input.{Input}
 use Rattle.stepper.specs.declared.Cycled.{Cycled}
 use Rattle.stepper.specs.declared.CycleAnswer.{CycleAnswer}
+use Rattle.stepper.specs.declared.CycleRefusal.{CycleRefusal}
+use Rattle.cycle.specs.declared.Stage.{Stage}
 
 -- the stages, each from the state that the one before it handed back
 abbrev pub fetch_in : Input → State → List ℕ → Fetched
@@ -29,35 +32,37 @@ operands_in input s store = operands_of input.settings (decode_in input s store)
 abbrev pub execute_in : Input → State → List ℕ → Executed
 execute_in input s store = execute_of input.settings input.source input.pointer (operands_in input s store).state store
 
--- a cycle that ends with a refusal: the state that was handed back, the number, and the stage (0 fetch, 1 decode, 2 operands, 3 execute)
-abbrev pub refused_at : State → ℕ → ℕ → Cycled
-refused_at s number stage = record { state = s; answer = CycleAnswer.Refused number stage }
+-- a cycle that ends with a refusal: the state that was handed back, the refusal and its stage
+abbrev pub refused_at : State → Refusal → Stage → Cycled
+refused_at s refusal stage = record { state = s; answer = Err (record { refusal = refusal; stage = stage }) }
 
-unfoldable pub cycle_done : Input → State → List ℕ → Cycled
-cycle_done input s store = record {
-  state = (execute_in input s store).state;
-  answer =
-      CycleAnswer.Done (query_of s) (fetch_in input s store).answer (decode_in input s store).answer (operands_in input s store).answer
-      (execute_in input s store).answer;
-}
+-- what follows a finished answer, and a refusal
+abbrev pub then_or : {A : Type 0} → Result A Refusal → (A → Cycled) → (Refusal → Cycled) → Cycled
+then_or (Ok answer) next refused = next answer
+then_or (Err refusal) next refused = refused refusal
 
 unfoldable pub cycle_of : Input → State → List ℕ → Cycled
 cycle_of input s store =
-    cond (eqb (fetch_number (fetch_in input s store).answer) 0)
-    (cond (eqb (decode_number (decode_in input s store).answer) 0)
-    (cond (eqb (operands_number (operands_in input s store).answer) 0)
-    (cond (eqb (execute_number (execute_in input s store).answer) 0) (cycle_done input s store)
-    (refused_at (execute_in input s store).state (execute_number (execute_in input s store).answer) 3))
-    (refused_at (operands_in input s store).state (operands_number (operands_in input s store).answer) 2))
-    (refused_at (decode_in input s store).state (decode_number (decode_in input s store).answer) 1))
-    (refused_at (fetch_in input s store).state (fetch_number (fetch_in input s store).answer) 0)
+    then_or (fetch_in input s store).answer
+    (λ fetch. then_or (decode_in input s store).answer
+    (λ decode. then_or (operands_in input s store).answer
+    (λ operands. then_or (execute_in input s store).answer
+    (λ execute. record {
+      state = (execute_in input s store).state;
+      answer = Ok (record { read = query_of s; fetch = fetch; decode = decode; operands = operands; execute = execute });
+    })
+    (λ r. refused_at (execute_in input s store).state r Stage.Execute))
+    (λ r. refused_at (operands_in input s store).state r Stage.Operands))
+    (λ r. refused_at (decode_in input s store).state r Stage.Decode))
+    (λ r. refused_at (fetch_in input s store).state r Stage.Fetch)
+
+abbrev pub is_done : {A E : Type 0} → Result A E → Bool
+is_done (Ok answer) = true
+is_done (Err refused) = false
 
 -- whether execute is reached
 abbrev pub is_reached : Input → State → List ℕ → Bool
-is_reached input s store =
-    eqb (fetch_number (fetch_in input s store).answer) 0
-    && eqb (decode_number (decode_in input s store).answer) 0
-    && eqb (operands_number (operands_in input s store).answer) 0
+is_reached input s store = is_done (fetch_in input s store).answer && is_done (decode_in input s store).answer && is_done (operands_in input s store).answer
 
 -- the store afterwards: execute alone writes it
 unfoldable pub cycle_store : Input → State → List ℕ → List ℕ
@@ -67,14 +72,14 @@ cycle_store input s store =
     store
 
 -- ---- the number and the charge of a cycle's answer
-abbrev pub cycle_number : CycleAnswer → ℕ
-cycle_number (CycleAnswer.Done read fetch decode operands execute) = 0
-cycle_number (CycleAnswer.Refused number stage) = number
+abbrev pub cycle_number : Result CycleAnswer CycleRefusal → ℕ
+cycle_number (Ok answer) = 0
+cycle_number (Err refused) = paper_number refused.refusal
 
-abbrev pub decode_charge : DecodeAnswer → ℕ
-decode_charge (DecodeAnswer.Done charge errors) = charge
-decode_charge (DecodeAnswer.Refused n) = 0
+abbrev pub decode_charge : Result DecodeAnswer Refusal → ℕ
+decode_charge (Ok answer) = answer.charge
+decode_charge (Err refusal) = 0
 
-abbrev pub cycle_charge : CycleAnswer → ℕ
-cycle_charge (CycleAnswer.Done read fetch decode operands execute) = decode_charge decode
-cycle_charge (CycleAnswer.Refused number stage) = 0
+abbrev pub cycle_charge : Result CycleAnswer CycleRefusal → ℕ
+cycle_charge (Ok answer) = answer.decode.charge
+cycle_charge (Err refused) = 0

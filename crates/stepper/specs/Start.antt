@@ -14,9 +14,6 @@ use Rattle.rules.specs.declared.Location.{Location}
 use Rattle.cycle.specs.declared.State.{State}
 use Rattle.cycle.specs.Effects.{no_flags, no_record}
 
-abbrev pub word : ℕ → U256
-word n = record { w0 = n; w1 = 0; w2 = 0; w3 = 0 }
-
 abbrev pub no_address : Address
 no_address = record { a0 = 0; a1 = 0; a2 = 0; a3 = 0; a4 = 0 }
 

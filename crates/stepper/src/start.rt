@@ -1,44 +1,19 @@
 // States and records that are 0 or no but for what is given, depth 1, time step 4 and the masked records' operations: where a listing starts, and the edges.
 ghost use Rattle.std.specs.Prelude.{◌≡◌, false};
-ghost use Rattle.cycle.specs.Effects.{no_record};
 ghost use Rattle.stepper.specs.Start as start;
 
 use cycle::{Kept, State};
 use frame::{Address, Frame, PubdataCost, U128};
 use rules::{Flags, Location, Record, Records, Settings};
-use u256::U256;
-
-pub fn word(n: u64) -> U256
-    ensures { result ≡ start.word n }
-{
-    U256 {
-        w0: n,
-        w1: 0,
-        w2: 0,
-        w3: 0,
-    }
-}
-
-fn no_address() -> Address
-    ensures { result ≡ start.no_address }
-{
-    Address {
-        a0: 0,
-        a1: 0,
-        a2: 0,
-        a3: 0,
-        a4: 0,
-    }
-}
 
 pub fn far_frame(ergs: u32, sp: u16) -> Frame
     ensures { result ≡ start.far_frame ergs sp }
 {
     Frame {
-        context_u128_value: U128 { low: 0, high: 0 },
-        this_address: no_address(),
-        msg_sender: no_address(),
-        code_address: no_address(),
+        context_u128_value: U128::default(),
+        this_address: Address::default(),
+        msg_sender: Address::default(),
+        code_address: Address::default(),
         base_memory_page: 0,
         code_page: 0,
         ergs_remaining: ergs,
@@ -52,12 +27,12 @@ pub fn far_frame(ergs: u32, sp: u16) -> Frame
         is_local_frame: false,
         heap_bound: 0,
         aux_heap_bound: 0,
-        total_pubdata_spent: PubdataCost(0),
+        total_pubdata_spent: PubdataCost::default(),
         stipend: 0,
     }
 }
 
-// A record with these fields; the others are 0 or no.
+// A record with these fields; the others are 0 or no. The kinds are numbers as in the record, so that one that is refused can be made too.
 pub fn instruction(
     operation: u8,
     return_kind: u8,
@@ -96,19 +71,16 @@ pub fn instruction(
     }
 }
 
-fn no_record() -> Record
-    ensures { result ≡ no_record }
-{
-    instruction(0, 0, 0, 0, 0, 0, 0, 0, 0, 0, false)
-}
-
 // The plain record with the two that it may be masked into.
 pub fn records_of(plain: Record) -> Records
     ensures { result ≡ start.records_of plain }
 {
     let panic = instruction(4, 2, 0, 0, 0, 0, 0, 0, 0, 0, false);
-    let nop = no_record();
-    Records { plain, panic, nop }
+    Records {
+        plain,
+        panic,
+        nop: Record::default(),
+    }
 }
 
 pub fn settings_of(limit: u32, multiplier: u32) -> Settings
@@ -127,9 +99,8 @@ pub fn start_state(ergs: u32, sp: u16) -> State
 {
     let none = registers::empty_word();
     let current = far_frame(ergs, sp);
-    let instruction = no_record();
     let kept = Kept {
-        instruction,
+        instruction: Record::default(),
         write: Location::None,
     };
     State {
@@ -138,16 +109,12 @@ pub fn start_state(ergs: u32, sp: u16) -> State
         previous_code_word: none,
         fetched_word: none,
         kept,
-        flags: Flags {
-            overflow_or_less_than_flag: false,
-            equality_flag: false,
-            greater_than_flag: false,
-        },
+        flags: Flags::default(),
         previous_code_memory_page: 0,
         timestamp: 0,
         monotonic_cycle_counter: 0,
         depth: 1,
-        pubdata_revert_counter: PubdataCost(0),
+        pubdata_revert_counter: PubdataCost::default(),
         previous_super_pc: 0,
         pointers: [false; 15],
         stage: 0,

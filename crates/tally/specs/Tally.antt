@@ -1,7 +1,8 @@
 -- The spend tally. Document 01: "A lent list of 64-bit numbers, indexed by depth: a frame's charges while it is the current one. An entry takes the depth before
 -- and after and the charge, which is added at the depth before; an opened frame's place is set to 0."
-use Rattle.std.specs.Prelude.{ℕ, ◌+◌, ◌^◌, Bool, cond, ◌||◌, List, ltb, leb, eqb, length, get_or, set}
-use Rattle.tally.specs.declared.EnterAnswer.{EnterAnswer}
+use Rattle.std.specs.Prelude.{ℕ, ◌+◌, ◌^◌, Bool, cond, ◌||◌, List, Result, Ok, Err, ltb, leb, eqb, length, get_or, set}
+use Rattle.refusal.specs.declared.Refusal.{Refusal}
+use Rattle.refusal.specs.Refusal.{numbered_refusal}
 
 -- the number at a depth with a charge added
 abbrev pub spent : List ℕ → ℕ → ℕ → ℕ
@@ -24,16 +25,11 @@ charged tally before charge = set tally before (spent tally before charge)
 abbrev pub entered : List ℕ → ℕ → ℕ → ℕ → List ℕ
 entered tally before after charge = cond (ltb before after) (set (charged tally before charge) after 0) (charged tally before charge)
 
--- the number of each case, 0 where nothing is refused; neither has other values
-abbrev pub enter_number : EnterAnswer → ℕ
-enter_number EnterAnswer.Entered = 0
-enter_number (EnterAnswer.Refused n) = n
+-- the answer for a number: `Ok` for 0, and a refusal by its number
+abbrev pub enter_answer : ℕ → Result (Unit {0}) Refusal
+enter_answer n = cond (eqb n 0) (Ok tt) (Err (numbered_refusal n))
 
--- the answer for a number: `Entered` for 0, and a refusal by its number
-abbrev pub enter_answer : ℕ → EnterAnswer
-enter_answer n = cond (eqb n 0) EnterAnswer.Entered (EnterAnswer.Refused n)
-
-unfoldable pub enter_of : List ℕ → ℕ → ℕ → ℕ → ℕ → EnterAnswer
+unfoldable pub enter_of : List ℕ → ℕ → ℕ → ℕ → ℕ → Result (Unit {0}) Refusal
 enter_of tally limit before after charge = enter_answer (enter_refusal tally limit before after charge)
 
 -- the tally afterwards: on a refusal, what was given

@@ -2,50 +2,44 @@
 #![tactic(auto)]
 
 ghost use Rattle.std.specs.Prelude.{◌≡◌};
-ghost use Rattle.tally.specs.Tally.{bad_entry, enter_refusal, enter_number, enter_of, tally_after};
+ghost use Rattle.refusal.specs.Refusal.{refusal_number};
+ghost use Rattle.tally.specs.Tally.{bad_entry, enter_refusal, enter_of, tally_after};
 ghost use Rattle.tally.specs.Entries.{PlaceHoldsSpend};
 
-#[derive(Clone, Copy)]
-pub enum EnterAnswer {
-    Entered,
-    Refused(u32),
-}
-
-const REFUSAL: u32 = 15;
+use refusal::Refusal;
 
 // Whether the tally is shorter than limit plus 1, or the depths are above the limit or more than 1 apart.
 fn bad_entry(size: usize, limit: u32, before: u32, after: u32) -> bool
     ensures { result ≡ bad_entry size limit before after }
 {
-    let before64 = before as u64;
-    let after64 = after as u64;
-    (size < limit as usize + 1)
-        | (limit < before)
-        | (limit < after)
-        | (before64 + 1 < after64)
-        | (after64 + 1 < before64)
+    (size < limit as usize + 1) | (limit < before) | (limit < after) | (1 < before.abs_diff(after))
 }
 
 // Enters the charge of a cycle that led from one depth to another.
 #[tactic(auto, unfolding(crate::specs::Tally::enter_of, crate::specs::Tally::tally_after))]
-pub fn enter(tally: &mut [u64], limit: u32, before: u32, after: u32, charge: u32) -> EnterAnswer
+pub fn enter(
+    tally: &mut [u64],
+    limit: u32,
+    before: u32,
+    after: u32,
+    charge: u32,
+) -> Result<(), Refusal>
     ensures { (result ≡ enter_of tally.old limit before after charge)
         × (tally.new ≡ tally_after tally.old limit before after charge)
-        × (enter_number result ≡ enter_refusal tally.old limit before after charge) }
+        × (refusal_number result ≡ enter_refusal tally.old limit before after charge) }
 {
     if bad_entry(tally.len(), limit, before, after) {
-        return EnterAnswer::Refused(REFUSAL);
+        return Err(Refusal::TallyEntry);
     }
     let place = before as usize;
-    let spent = tally[place];
-    if 0xffff_ffff_ffff_ffff - (charge as u64) < spent {
-        return EnterAnswer::Refused(REFUSAL);
-    }
-    tally[place] = spent + charge as u64;
+    let spent = tally[place]
+        .checked_add(u64::from(charge))
+        .ok_or(Refusal::TallyEntry)?;
+    tally[place] = spent;
     if before < after {
         tally[after as usize] = 0;
     }
-    EnterAnswer::Entered
+    Ok(())
 }
 
 // What the tally is for, in a contract, so that it is proved with every check: after any list of entries the place at a depth holds what its frame spent since it

@@ -1,11 +1,7 @@
 -- Sums and differences of document 01's edges. Assumes nothing.
-use Rattle.std.proofs.Common.{◌≡◌, ℕ, true, false, refl}
+use Rattle.std.proofs.Common.{◌≡◌, true, false, refl}
 use Rattle.u256.specs.declared.U256.{U256}
-use Rattle.u256.specs.U256.{sum_of, difference_of}
-
--- a value of one word
-abbrev small : ℕ → U256
-small n = record { w0 = n; w1 = 0; w2 = 0; w3 = 0 }
+use Rattle.u256.specs.U256.{one_word, sum_of, difference_of}
 
 -- 2 ^ 256 - 1
 abbrev ones : U256
@@ -16,14 +12,14 @@ ones = record {
   w3 = 18446744073709551615;
 }
 
-pub ones_plus_1 : sum_of ones (small 1) ≡ record { value = small 0; overflow = true }
+pub ones_plus_1 : sum_of ones (one_word 1) ≡ (one_word 0, true)
 unfolding sum_of
 ones_plus_1 = refl
 
-pub zero_minus_1 : difference_of (small 0) (small 1) ≡ record { value = ones; overflow = true }
+pub zero_minus_1 : difference_of (one_word 0) (one_word 1) ≡ (ones, true)
 unfolding difference_of
 zero_minus_1 = refl
 
-pub five_minus_5 : difference_of (small 5) (small 5) ≡ record { value = small 0; overflow = false }
+pub five_minus_5 : difference_of (one_word 5) (one_word 5) ≡ (one_word 0, false)
 unfolding difference_of
 five_minus_5 = refl

@@ -1,3 +1,2 @@
 pub mod Word
 pub mod U256
-pub mod Carry

@@ -1,7 +1,6 @@
 -- 256-bit values. Document 01: "U256 becomes four 64-bit words". A sum or difference is that of the numbers, modulo 2 ^ 256.
 use Rattle.std.specs.Prelude.{ℕ, ◌+◌, ◌*◌, ◌/◌, ◌%◌, ◌^◌, Bool, ◌==◌}
 use Rattle.u256.specs.declared.U256.{U256}
-use Rattle.u256.specs.declared.Overflowing.{Overflowing}
 use Rattle.u256.specs.Word.{low, wrapping_sum, wrapping_difference, sum_overflows, difference_overflows}
 
 -- the number that four words hold, the lowest word first
@@ -17,19 +16,17 @@ words_of n = record {
   w3 = n / 2 ^ 192 % 2 ^ 64;
 }
 
+-- the value of a number below 2 ^ 64
+abbrev pub one_word : ℕ → U256
+one_word n = record { w0 = n; w1 = 0; w2 = 0; w3 = 0 }
+
 -- (a + b) modulo 2 ^ 256, and whether the sum reaches 2 ^ 256
-unfoldable pub sum_of : U256 → U256 → Overflowing
-sum_of a b = record {
-  value = words_of (wrapping_sum 256 (value_of a) (value_of b));
-  overflow = sum_overflows 256 (value_of a) (value_of b);
-}
+unfoldable pub sum_of : U256 → U256 → U256 × Bool
+sum_of a b = (words_of (wrapping_sum 256 (value_of a) (value_of b)), sum_overflows 256 (value_of a) (value_of b))
 
 -- (a - b) modulo 2 ^ 256, and whether the difference is below 0
-unfoldable pub difference_of : U256 → U256 → Overflowing
-difference_of a b = record {
-  value = words_of (wrapping_difference 256 (value_of a) (value_of b));
-  overflow = difference_overflows (value_of a) (value_of b);
-}
+unfoldable pub difference_of : U256 → U256 → U256 × Bool
+difference_of a b = (words_of (wrapping_difference 256 (value_of a) (value_of b)), difference_overflows (value_of a) (value_of b))
 
 -- the number is 0
 unfoldable pub is_zero : U256 → Bool

@@ -1,13 +1,11 @@
-// 256-bit values: sum, difference, the test for zero and the lowest bits.
+// 256-bit values: sum, difference, the test for zero, the lowest bits, and a 64-bit number as one.
 #![tactic(auto)]
 
-ghost use Rattle.std.specs.Prelude.{◌≡◌, ◌+◌};
-ghost use mir.Val.{bool_byte};
-ghost use Rattle.u256.specs.U256.{value_of, sum_of, difference_of, is_zero, low_of};
-ghost use Rattle.u256.specs.Carry.{Adds, total_of, complement_of};
+ghost use Rattle.std.specs.Prelude.{◌≡◌};
+ghost use Rattle.u256.specs.U256.{sum_of, difference_of, is_zero, low_of, one_word};
 
 // Four 64-bit words, the lowest first.
-#[derive(Clone, Copy)]
+#[derive(Clone, Copy, Debug, Default, PartialEq, Eq)]
 pub struct U256 {
     pub w0: u64,
     pub w1: u64,
@@ -15,90 +13,37 @@ pub struct U256 {
     pub w3: u64,
 }
 
-#[derive(Clone, Copy)]
-pub struct Overflowing {
-    pub value: U256,
-    pub overflow: bool,
-}
-
-// One word of a sum, and what it carries into the next.
-#[derive(Clone, Copy)]
-struct Digit {
-    word: u64,
-    carry: bool,
-}
-
-fn add_words(x: u64, y: u64, carry: bool) -> Digit
-    ensures { Adds (x + y + bool_byte carry) result }
-{
-    let partial = std::num::wrapping_add_u64(x, y);
-    let word = std::num::wrapping_add_u64(partial, carry as u64);
-    Digit {
-        word,
-        carry: (partial < x) | (word < partial),
-    }
-}
-
 impl U256 {
-    #[tactic(auto, unfolding(crate::specs::Carry::total_of))]
-    fn add_with_carry(self, other: U256, carry: bool) -> Overflowing
-        ensures { result ≡ total_of (value_of self + value_of other + bool_byte carry) }
-    {
-        let d0 = add_words(self.w0, other.w0, carry);
-        let d1 = add_words(self.w1, other.w1, d0.carry);
-        let d2 = add_words(self.w2, other.w2, d1.carry);
-        let d3 = add_words(self.w3, other.w3, d2.carry);
-        let value = U256 {
-            w0: d0.word,
-            w1: d1.word,
-            w2: d2.word,
-            w3: d3.word,
-        };
-        Overflowing {
-            value,
-            overflow: d3.carry,
-        }
-    }
-
-    // Each bit inverted.
-    fn complement(self) -> U256
-        ensures { result ≡ complement_of self }
-    {
-        U256 {
-            w0: 0xffff_ffff_ffff_ffff - self.w0,
-            w1: 0xffff_ffff_ffff_ffff - self.w1,
-            w2: 0xffff_ffff_ffff_ffff - self.w2,
-            w3: 0xffff_ffff_ffff_ffff - self.w3,
-        }
-    }
-
-    #[tactic(auto, unfolding(crate::specs::U256::sum_of, crate::specs::Carry::total_of))]
-    pub fn overflowing_add(self, other: U256) -> Overflowing
+    #[tactic(auto, unfolding(crate::specs::U256::sum_of))]
+    pub fn overflowing_add(self, other: U256) -> (U256, bool)
         ensures { result ≡ sum_of self other }
     {
-        self.add_with_carry(other, false)
+        let (w0, carry) = self.w0.carrying_add(other.w0, false);
+        let (w1, carry) = self.w1.carrying_add(other.w1, carry);
+        let (w2, carry) = self.w2.carrying_add(other.w2, carry);
+        let (w3, overflow) = self.w3.carrying_add(other.w3, carry);
+        (U256 { w0, w1, w2, w3 }, overflow)
     }
 
-    // a - b is a plus the complement of b plus 1; no carry comes out where b is above a.
-    #[tactic(auto, unfolding(crate::specs::U256::difference_of, crate::specs::Carry::total_of))]
-    pub fn overflowing_sub(self, other: U256) -> Overflowing
+    #[tactic(auto, unfolding(crate::specs::U256::difference_of))]
+    pub fn overflowing_sub(self, other: U256) -> (U256, bool)
         ensures { result ≡ difference_of self other }
     {
-        let total = self.add_with_carry(other.complement(), true);
-        let value = total.value;
-        Overflowing {
-            value,
-            overflow: !total.overflow,
-        }
+        let (w0, borrow) = self.w0.borrowing_sub(other.w0, false);
+        let (w1, borrow) = self.w1.borrowing_sub(other.w1, borrow);
+        let (w2, borrow) = self.w2.borrowing_sub(other.w2, borrow);
+        let (w3, overflow) = self.w3.borrowing_sub(other.w3, borrow);
+        (U256 { w0, w1, w2, w3 }, overflow)
     }
 
     #[tactic(auto, unfolding(crate::specs::U256::is_zero))]
     pub fn is_zero(self) -> bool
         ensures { result ≡ is_zero self }
     {
-        (self.w0 == 0) & (self.w1 == 0) & (self.w2 == 0) & (self.w3 == 0)
+        self == U256::default()
     }
 
+    // A function for each width: a trait of words has the same line in each impl, and its own members on top.
     #[tactic(auto, unfolding(crate::specs::U256::low_of))]
     pub fn low_u16(self) -> u16
         ensures { result ≡ low_of 16 self }
@@ -118,5 +63,18 @@ impl U256 {
         ensures { result ≡ low_of 64 self }
     {
         self.w0
+    }
+}
+
+impl From<u64> for U256 {
+    ghost from_gives = { λ n v. v ≡ one_word n };
+
+    fn from(n: u64) -> U256 {
+        U256 {
+            w0: n,
+            w1: 0,
+            w2: 0,
+            w3: 0,
+        }
     }
 }

@@ -1,9 +1,14 @@
-use Rattle.std.proofs.Common.{◌≡◌, ◌-◌, ◌*◌, ◌≤◌}
+use Rattle.std.proofs.Common.{◌≡◌, ◌*◌, ◌-◌, ◌≤◌, drop}
+use Rattle.frame.specs.Row.{row_width}
 use Rattle.frame.specs.Store.{saved_ergs}
 use Rattle.frame.proofs.saved_ergs.Given as goal
 
-abbrev pub invariant-loop-i : goal.invariant-loop-i
-invariant-loop-i l = (l.sum ≡ saved_ergs l.i l.store) × (l.sum ≤ l.i * 4294967295) × (l.i ≤ l.depth)
-
-abbrev pub decreases-loop-i : goal.decreases-loop-i
-decreases-loop-i l = l.depth - l.i
+-- the rows that were summed are the depth less those that may still be taken
+abbrev pub invariant-loop-row : goal.invariant-loop-row
+invariant-loop-row l = record {
+  size : l.row-iterator.iter.size ≡ row_width;
+  left : l.row-iterator.n ≤ l.depth;
+  rest : l.row-iterator.iter.rest.now ≡ drop ((l.depth - l.row-iterator.n) * row_width) l.store;
+  sum : l.sum ≡ saved_ergs (l.depth - l.row-iterator.n) l.store;
+  bound : l.sum ≤ (l.depth - l.row-iterator.n) * 4294967295;
+}

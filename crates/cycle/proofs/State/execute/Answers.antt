@@ -7,7 +7,7 @@ pub returns-then-sizes-turn : goal.returns-then-sizes-turn
 returns-then-sizes-turn c =
     let a = c.args in
     laws.refused a.settings a.word a.pointer a.self a.store.now _ c.sources-sources.ensures _ c.bad_sizes-sizes.ensures _ c.good_record-bad.ensures
-    _ c.is_kernel_mode.ensures _ c.pointer_refused-held.ensures c.if-sizes-turn.true _ c.execute_refusal.ensures _ c.refused.ensures
+    _ c.is_kernel_mode.ensures _ c.pointer_refused-held.ensures c.if-sizes-turn.true _ c.first_after.ensures _ c.refused.ensures
 
 pub returns-in-0 : goal.returns-in-0
 returns-in-0 c =

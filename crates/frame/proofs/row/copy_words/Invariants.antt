@@ -1,13 +1,8 @@
-use Rattle.std.proofs.Common.{◌≡◌, ◌-◌, ◌≤◌, take, drop}
-use Rattle.frame.specs.Row.{row_width}
+use Rattle.std.proofs.Common.{◌≡◌, take, drop}
 use Rattle.frame.proofs.row.copy_words.Given as goal
 
 abbrev pub invariant-loop-k : goal.invariant-loop-k
 invariant-loop-k l = record {
-  upto : l.k ≤ row_width;
   copied : take l.k l.part ≡ take l.k l.row;
   rest : drop l.k l.part ≡ drop l.k l.initial.part;
 }
-
-abbrev pub decreases-loop-k : goal.decreases-loop-k
-decreases-loop-k l = row_width - l.k
