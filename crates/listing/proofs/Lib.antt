@@ -1,4 +1,3 @@
-pub mod ProgressLaws
 pub mod ListingLaws
 pub mod RoomLaws
 pub mod Example

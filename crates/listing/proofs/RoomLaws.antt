@@ -1,24 +1,29 @@
 -- A listing fits on its buffer. Assumes nothing.
-use Prim.Native.Nat.{ℕ, suc, ◌+◌, ◌*◌, ◌≤◌, ◌<◌}
+use Prim.Native.Nat.{ℕ, suc, ◌+◌, ◌*◌, ◌≤◌}
+use Rattle.std.specs.Prelude.{Option, Some, None}
 use mathlib.Core.Bool.{Bool, true, false, cond}
 use mathlib.Core.Path.{◌≡◌, refl}
 use mathlib.Core.List.{List, [], ◌∷◌, ◌++◌}
 use native.Mathlib.Omega.{arith}
 use lib.Dec.{eqb, ltb}
 use lib.ListN.{length, take, drop, get_or, length-append}
-use borrow.Author.Tests.{ltb-false, lt-ltb, le-ltb}
+use borrow.Author.Tests.{ltb-false}
 use Rattle.text.specs.Bytes.{bytes_of, same_bytes, Wrote}
 use Rattle.text.specs.Parts.{onto, cut, lines_of}
-use Rattle.text.proofs.BytesLaws.{join, wrote_same, whole}
-use Rattle.table.specs.declared.Op.{Op}
+use Rattle.std.proofs.lemmas.List.Edits.{sets}
+use Rattle.text.specs.declared.Writer.{Writer}
+use Rattle.text.proofs.BytesLaws.{whole}
 use Rattle.table.specs.declared.Line.{Line}
 use Rattle.table.specs.declared.Start.{Start}
 use Rattle.table.specs.Line.{line_of, start_of}
-use Rattle.table.specs.Row.{row_text, bad_line, refused_with, names_line}
+use Rattle.table.specs.Row.{row_text, bad_line, names_line}
 use Rattle.table.proofs.LineLaws.{run_length}
 use Rattle.table.proofs.RowLaws.{row_length, bad_length, refused_length}
+use Rattle.std.specs.Prelude.{Result, Ok, Err}
+use Rattle.refusal.specs.declared.Refusal.{Refusal}
+use Rattle.refusal.specs.Refusal.{paper_number}
 use Rattle.runs.specs.Run.{Run, start_run, ran_of, run_after, printed_row}
-use Rattle.listing.specs.Listing.{line_text, lines_text, named, third_on, started, second_on, first_on, listing_of}
+use Rattle.listing.specs.Listing.{going_on, line_text, lines_text, named, third_on, started, second_on, first_on, listing_of}
 
 -- the bytes of lines, with one for each line's end
 size : List (List ℕ) → ℕ
@@ -42,19 +47,19 @@ size_drop [] = omega arith
 size_drop (l ∷ ls) = omega arith
 
 -- what a line prints is paid for by its bytes
-line_size : (limit n : ℕ) (b : Run) (line : Line) (bytes : ℕ) → (later : Run → List ℕ) (more : ℕ)
-    → ((op : Op) (price want : ℕ) → line ≡ Line.Run op price want → 6 ≤ bytes) → ((next : Run) → length (later next) ≤ more) → 30 ≤ more
-    → length (line_text limit n b line later) ≤ 20 * (bytes + 1) + more
-line_size limit n b Line.Bad bytes later more k h m = omega (arith, bad_length (n + 3))
-line_size limit n b (Line.Run op price want) bytes later more k h m = go (eqb (ran_of limit op price want b).number 0)
+line_size : (limit n : ℕ) (b : Run) (read : Option Line) (bytes : ℕ) → (later : Run → List ℕ) (more : ℕ)
+    → ((line : Line) → read ≡ Some line → 6 ≤ bytes) → ((next : Run) → length (later next) ≤ more) → 30 ≤ more
+    → length (line_text limit n b read later) ≤ 20 * (bytes + 1) + more
+line_size limit n b None bytes later more k h m = omega (arith, bad_length (n + 3))
+line_size limit n b (Some line) bytes later more k h m = go (ran_of limit line b).answer
   where
-    go : (t : Bool)
-        → length (cond t (row_text (printed_row n op (ran_of limit op price want b).charge (run_after limit op price want b)) ++ later (run_after limit op price want b))
-        (refused_with (ran_of limit op price want b).number)) ≤ 20 * (bytes + 1) + more
-    go true =
-        let r = printed_row n op (ran_of limit op price want b).charge (run_after limit op price want b) in
-        omega (arith, length-append (row_text r) (later (run_after limit op price want b)), row_length r, h (run_after limit op price want b), k op price want refl)
-    go false = omega (arith, refused_length (ran_of limit op price want b).number)
+    go : (answer : Result (Unit {0}) Refusal)
+        → length (going_on answer (row_text (printed_row n line.op (ran_of limit line b).charge (run_after limit line b)) ++ later (run_after limit line b)))
+        ≤ 20 * (bytes + 1) + more
+    go (Ok done) =
+        let r = printed_row n line.op (ran_of limit line b).charge (run_after limit line b) in
+        omega (arith, length-append (row_text r) (later (run_after limit line b)), row_length r, h (run_after limit line b), k line refl)
+    go (Err refusal) = omega (arith, refused_length (paper_number refusal))
 
 lines_size : (limit n : ℕ) (b : Run) (lines : List (List ℕ)) → length (lines_text limit n b lines) ≤ 20 * size lines + 30
 unfolding size
@@ -62,7 +67,7 @@ lines_size limit n b [] = omega arith
 lines_size limit n b (l ∷ ls) =
     let k : length (lines_text limit n b (l ∷ ls)) ≤ 20 * (length l + 1) + (20 * size ls + 30) =
     line_size limit n b (line_of l) (length l) (λ next. lines_text limit (n + 1) next ls) (20 * size ls + 30)
-    (λ op price want e. run_length l e) (λ next. lines_size limit (n + 1) next ls) (omega arith) in
+    (λ line e. run_length l e) (λ next. lines_size limit (n + 1) next ls) (omega arith) in
     omega arith
 
 -- a line of names
@@ -76,9 +81,9 @@ third_size ergs limit lines =
     named_size 3 (same_bytes (get_or lines 0 []) (bytes_of "op price want")) (lines_text limit 1 (start_run ergs) (drop 1 lines)) (20 * size lines + 30)
     (omega (arith, lines_size limit 1 (start_run ergs) (drop 1 lines), size_drop lines)) (omega arith)
 
-started_size : (start : Start) (lines : List (List ℕ)) → length (started start lines) ≤ 20 * size lines + 30
-started_size Start.Bad lines = omega (arith, bad_length 2)
-started_size (Start.From ergs limit) lines = third_size ergs limit lines
+started_size : (start : Option Start) (lines : List (List ℕ)) → length (started start lines) ≤ 20 * size lines + 30
+started_size None lines = omega (arith, bad_length 2)
+started_size (Some start) lines = third_size start.ergs start.limit lines
 
 first_size : (lines : List (List ℕ)) → length (first_on lines) ≤ 20 * size lines + 30
 unfolding first_on second_on
@@ -96,22 +101,11 @@ fits input = go (ltb 65536 (length input)) refl
     go false e =
         omega (arith, length-append names_line (first_on (lines_of input)), first_size (lines_of input), size_cut input, ltb-false 65536 (length input) e)
 
--- ---- the whole listing on its buffer
--- the buffer begins with it, and the rest is as it was
-abbrev Listed : List ℕ → List ℕ → List ℕ → ℕ → Type 0
-Listed input buffer after r = (r ≡ length (listing_of input)) × (take r after ≡ listing_of input) × (drop r after ≡ drop r buffer)
-
-module _ (input buffer : List ℕ) (room : length buffer ≡ 1310848) {p1 : List ℕ} {r1 : ℕ} (names : Wrote buffer 0 names_line p1 r1) {after : List ℕ} {r : ℕ} where
-  listed : (text : List ℕ) → listing_of input ≡ names_line ++ text → Wrote p1 r1 text after r → Listed input buffer after r
-  listed text e w =
-      let all = wrote_same buffer 0 e (join buffer 0 names_line text names w) in
-      let n : r ≡ length (listing_of input) = omega (arith, all.0, fits input) in
-      (n, rw (n, all.1) (whole buffer (listing_of input) (omega (arith, fits input))).0, rw (n, all.1) (whole buffer (listing_of input) (omega (arith, fits input))).1)
-
-  pub long : 65536 < length input → Wrote p1 r1 (bad_line 0) after r → Listed input buffer after r
-  unfolding listing_of
-  long h = listed (bad_line 0) (rw (lt-ltb 65536 (length input) h))
-
-  pub short : length input ≤ 65536 → Wrote p1 r1 (first_on (lines_of input)) after r → Listed input buffer after r
-  unfolding listing_of
-  short h = listed (first_on (lines_of input)) (rw (le-ltb 65536 (length input) h))
+-- the whole listing, written from the front of a buffer that has room for it, and the rest of the buffer as it was
+pub listed : (input : List ℕ) (old : Writer) {new : Writer} → old.position ≡ 0 → length old.buffer.now ≡ 1310848 → Wrote old (listing_of input) new
+    → (new.position ≡ length (listing_of input)) × (take new.position new.buffer.now ≡ listing_of input) × (drop new.position new.buffer.now ≡ drop new.position old.buffer.now)
+listed input old {new} start room wrote =
+    let fit = whole old.buffer.now (listing_of input) (omega (arith, fits input)) in
+    let n : new.position ≡ length (listing_of input) = omega (arith, wrote.position, fits input) in
+    let written : new.buffer.now ≡ sets old.buffer.now 0 (listing_of input) = rw start at wrote.bytes in
+    (n, rw (n, written) fit.0, rw (n, written) fit.1)

@@ -1,2 +1,1 @@
 pub mod Listing
-pub mod Progress

@@ -1,21 +1,27 @@
 -- The nearbook listing: what is printed for the bytes of an input. Document 01: "Program nearbook reads standard input, at most 65,536 bytes"; "A bad line ... ends it with
 -- `bad line N` (from 1; 0 for too long), a refusal with `refused R`; the names line is printed first in every case."
-use Rattle.std.specs.Prelude.{ℕ, ◌+◌, Bool, cond, List, [], ◌∷◌, ◌++◌, eqb, ltb, length, get_or, drop}
+use Rattle.std.specs.Prelude.{ℕ, ◌+◌, Bool, cond, List, [], ◌∷◌, ◌++◌, Option, Some, None, Result, Ok, Err, ltb, length, get_or, drop}
 use Rattle.text.specs.Bytes.{bytes_of, same_bytes}
 use Rattle.text.specs.Parts.{lines_of}
 use Rattle.table.specs.declared.Line.{Line}
 use Rattle.table.specs.declared.Start.{Start}
 use Rattle.table.specs.Line.{line_of, start_of}
 use Rattle.table.specs.Row.{row_text, bad_line, refused_with, names_line}
+use Rattle.refusal.specs.declared.Refusal.{Refusal}
+use Rattle.refusal.specs.Refusal.{paper_number}
 use Rattle.runs.specs.Run.{Run, start_run, ran_of, run_after, printed_row}
 
+-- what a line's cycle prints, which goes on so where nothing is refused
+abbrev pub going_on : Result (Unit {0}) Refusal → List ℕ → List ℕ
+going_on (Ok done) text = text
+going_on (Err refusal) text = refused_with (paper_number refusal)
+
 -- what a line prints, with what the lines after it print from the run that it leaves. Cycle n stands on line n + 3.
-abbrev pub line_text : ℕ → ℕ → Run → Line → (Run → List ℕ) → List ℕ
-line_text limit n b Line.Bad later = bad_line (n + 3)
-line_text limit n b (Line.Run op price want) later =
-    cond (eqb (ran_of limit op price want b).number 0)
-    (row_text (printed_row n op (ran_of limit op price want b).charge (run_after limit op price want b)) ++ later (run_after limit op price want b))
-    (refused_with (ran_of limit op price want b).number)
+abbrev pub line_text : ℕ → ℕ → Run → Option Line → (Run → List ℕ) → List ℕ
+line_text limit n b None later = bad_line (n + 3)
+line_text limit n b (Some line) later =
+    going_on (ran_of limit line b).answer
+    (row_text (printed_row n line.op (ran_of limit line b).charge (run_after limit line b)) ++ later (run_after limit line b))
 
 -- the lines from the fourth on, the first of which is cycle n
 abbrev pub lines_text : ℕ → ℕ → Run → List (List ℕ) → List ℕ
@@ -30,9 +36,9 @@ named n same later = cond same later (bad_line n)
 unfoldable pub third_on : ℕ → ℕ → List (List ℕ) → List ℕ
 third_on ergs limit lines = named 3 (same_bytes (get_or lines 0 []) (bytes_of "op price want")) (lines_text limit 1 (start_run ergs) (drop 1 lines))
 
-abbrev pub started : Start → List (List ℕ) → List ℕ
-started Start.Bad lines = bad_line 2
-started (Start.From ergs limit) lines = third_on ergs limit lines
+abbrev pub started : Option Start → List (List ℕ) → List ℕ
+started None lines = bad_line 2
+started (Some start) lines = third_on start.ergs start.limit lines
 
 unfoldable pub second_on : List (List ℕ) → List ℕ
 second_on lines = started (start_of (get_or lines 0 [])) (drop 1 lines)

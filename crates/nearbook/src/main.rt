@@ -7,6 +7,7 @@ use listing::{ROOM, TOO_LONG};
 use std::io::Read;
 
 // Reads until the input ends or the buffer is full, and gives the number of bytes. A read that fails counts as the end of the input.
+// A loop of its own: std's `read_to_end` allocates, and `read_exact` does not tell how much came before the end.
 fn read_full(input: &mut impl Read, buffer: &mut [u8]) -> usize
     ensures { result ≤ length buffer.new }
 {

@@ -1,8 +1,9 @@
 -- Rows printed. Assumes nothing.
 use Prim.Native.Nat.{ℕ, ◌≤◌}
-use mathlib.Core.List.{List, [], ◌∷◌, ◌++◌}
+use mathlib.Core.List.{[], ◌∷◌, ◌++◌}
 use native.Mathlib.Omega.{arith}
 use lib.ListN.{length, length-append}
+use Rattle.text.specs.declared.Writer.{Writer}
 use Rattle.text.specs.Bytes.{Wrote}
 use Rattle.text.proofs.BytesLaws.{join}
 use Rattle.text.proofs.NumberLaws.{digits_length}
@@ -12,30 +13,23 @@ use Rattle.table.specs.Line.{name_of}
 use Rattle.table.specs.Row.{field, row_text, bad_line, refused_with}
 
 -- the parts of a row, written one after the other
-pub wrote_row : (buffer : List ℕ) (at : ℕ) (row : Row) {buffer1 buffer2 buffer3 buffer4 buffer5 buffer6 buffer7 buffer8 : List ℕ} {r1 r2 r3 r4 r5 r6 r7 r8 : ℕ}
-    → Wrote buffer at (field row.cycle 32) buffer1 r1
-    → Wrote buffer1 r1 (name_of row.op) buffer2 r2
-    → Wrote buffer2 r2 (32 ∷ []) buffer3 r3
-    → Wrote buffer3 r3 (field row.charge 32) buffer4 r4
-    → Wrote buffer4 r4 (field row.depth 32) buffer5 r5
-    → Wrote buffer5 r5 (field row.held 32) buffer6 r6
-    → Wrote buffer6 r6 (field row.total 32) buffer7 r7
-    → Wrote buffer7 r7 (field row.own 10) buffer8 r8
-    → Wrote buffer at (row_text row) buffer8 r8
-wrote_row buffer at row {buffer1} {buffer2} {buffer3} {buffer4} {buffer5} {buffer6} {buffer7} {buffer8} {r1} {r2} {r3} {r4} {r5} {r6} w1 w2 w3 w4 w5 w6 w7 w8 =
+pub wrote_row : (w0 : Writer) (row : Row) {w1 w2 w3 w4 w5 w6 w7 w8 : Writer}
+    → Wrote w0 (field row.cycle 32) w1 → Wrote w1 (name_of row.op) w2 → Wrote w2 (32 ∷ []) w3 → Wrote w3 (field row.charge 32) w4
+    → Wrote w4 (field row.depth 32) w5 → Wrote w5 (field row.held 32) w6 → Wrote w6 (field row.total 32) w7 → Wrote w7 (field row.own 10) w8
+    → Wrote w0 (row_text row) w8
+wrote_row w0 row {w1} {w2} {w3} {w4} {w5} {w6} p1 p2 p3 p4 p5 p6 p7 p8 =
     let t7 = field row.total 32 ++ field row.own 10 in
     let t6 = field row.held 32 ++ t7 in
     let t5 = field row.depth 32 ++ t6 in
     let t4 = field row.charge 32 ++ t5 in
     let t3 = (32 ∷ []) ++ t4 in
-    let t2 = name_of row.op ++ t3 in
-    let v7 = join buffer6 r6 (field row.total 32) (field row.own 10) w7 w8 in
-    let v6 = join buffer5 r5 (field row.held 32) t7 w6 v7 in
-    let v5 = join buffer4 r4 (field row.depth 32) t6 w5 v6 in
-    let v4 = join buffer3 r3 (field row.charge 32) t5 w4 v5 in
-    let v3 = join buffer2 r2 (32 ∷ []) t4 w3 v4 in
-    let v2 = join buffer1 r1 (name_of row.op) t3 w2 v3 in
-    join buffer at (field row.cycle 32) t2 w1 v2
+    join w0 (field row.cycle 32) (name_of row.op ++ t3) p1
+    (join w1 (name_of row.op) t3 p2
+    (join w2 (32 ∷ []) t4 p3
+    (join w3 (field row.charge 32) t5 p4
+    (join w4 (field row.depth 32) t6 p5
+    (join w5 (field row.held 32) t7 p6
+    (join w6 (field row.total 32) (field row.own 10) p7 p8))))))
 
 name_length : (op : Op) → length (name_of op) ≤ 6
 name_length Op.Add = omega arith

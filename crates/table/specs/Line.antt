@@ -1,13 +1,11 @@
 -- What a line of the listing says. Document 01: "a line of names, then values in that order. `op` is add, call, ok, revert or panic; want is what a call requests;
 -- ... limit 1 to 16"; a bad line has "a wrong name or op, a field missing or too many, fields not parted by one space, a value not plain decimal digits, above 32 bits,
 -- or a limit outside its range".
-use Rattle.std.specs.Prelude.{ℕ, cond, ◌&&◌, List, [], ◌∷◌, leb}
+use Rattle.std.specs.Prelude.{ℕ, cond, ◌&&◌, List, [], ◌∷◌, Option, Some, None, leb}
 use Rattle.text.specs.Bytes.{bytes_of, same_bytes}
 use Rattle.text.specs.Parts.{fields_of}
 use Rattle.text.specs.Number.{number_of}
-use Rattle.text.specs.declared.Number.{Number}
 use Rattle.table.specs.declared.Op.{Op}
-use Rattle.table.specs.declared.ReadOp.{ReadOp}
 use Rattle.table.specs.declared.Line.{Line}
 use Rattle.table.specs.declared.Start.{Start}
 
@@ -19,42 +17,42 @@ name_of Op.Revert = bytes_of "revert"
 name_of Op.Panic = bytes_of "panic"
 
 -- the op that has this name
-unfoldable pub op_of : List ℕ → ReadOp
+unfoldable pub op_of : List ℕ → Option Op
 op_of field =
-    cond (same_bytes field (name_of Op.Add)) (ReadOp.Known Op.Add)
-    (cond (same_bytes field (name_of Op.Call)) (ReadOp.Known Op.Call)
-    (cond (same_bytes field (name_of Op.Ok)) (ReadOp.Known Op.Ok)
-    (cond (same_bytes field (name_of Op.Revert)) (ReadOp.Known Op.Revert)
-    (cond (same_bytes field (name_of Op.Panic)) (ReadOp.Known Op.Panic) ReadOp.Bad))))
+    cond (same_bytes field (name_of Op.Add)) (Some Op.Add)
+    (cond (same_bytes field (name_of Op.Call)) (Some Op.Call)
+    (cond (same_bytes field (name_of Op.Ok)) (Some Op.Ok)
+    (cond (same_bytes field (name_of Op.Revert)) (Some Op.Revert)
+    (cond (same_bytes field (name_of Op.Panic)) (Some Op.Panic) None))))
 
 -- a line `op price want`
-abbrev pub run_line : ReadOp → Number → Number → Line
-run_line ReadOp.Bad price want = Line.Bad
-run_line (ReadOp.Known op) Number.Bad want = Line.Bad
-run_line (ReadOp.Known op) (Number.Value price) Number.Bad = Line.Bad
-run_line (ReadOp.Known op) (Number.Value price) (Number.Value want) = Line.Run op price want
+abbrev pub run_line : Option Op → Option ℕ → Option ℕ → Option Line
+run_line None price want = None
+run_line (Some op) None want = None
+run_line (Some op) (Some price) None = None
+run_line (Some op) (Some price) (Some want) = Some record { op = op; price = price; want = want }
 
-abbrev pub line_fields : List (List ℕ) → Line
-line_fields [] = Line.Bad
-line_fields (a ∷ []) = Line.Bad
-line_fields (a ∷ b ∷ []) = Line.Bad
+abbrev pub line_fields : List (List ℕ) → Option Line
+line_fields [] = None
+line_fields (a ∷ []) = None
+line_fields (a ∷ b ∷ []) = None
 line_fields (a ∷ b ∷ c ∷ []) = run_line (op_of a) (number_of b) (number_of c)
-line_fields (a ∷ b ∷ c ∷ d ∷ more) = Line.Bad
+line_fields (a ∷ b ∷ c ∷ d ∷ more) = None
 
-unfoldable pub line_of : List ℕ → Line
+unfoldable pub line_of : List ℕ → Option Line
 line_of line = line_fields (fields_of line)
 
 -- the second line, `ergs limit`
-abbrev pub start_with : Number → Number → Start
-start_with Number.Bad limit = Start.Bad
-start_with (Number.Value ergs) Number.Bad = Start.Bad
-start_with (Number.Value ergs) (Number.Value limit) = cond (leb 1 limit && leb limit 16) (Start.From ergs limit) Start.Bad
+abbrev pub start_with : Option ℕ → Option ℕ → Option Start
+start_with None limit = None
+start_with (Some ergs) None = None
+start_with (Some ergs) (Some limit) = cond (leb 1 limit && leb limit 16) (Some record { ergs = ergs; limit = limit }) None
 
-abbrev pub start_fields : List (List ℕ) → Start
-start_fields [] = Start.Bad
-start_fields (a ∷ []) = Start.Bad
+abbrev pub start_fields : List (List ℕ) → Option Start
+start_fields [] = None
+start_fields (a ∷ []) = None
 start_fields (a ∷ b ∷ []) = start_with (number_of a) (number_of b)
-start_fields (a ∷ b ∷ c ∷ more) = Start.Bad
+start_fields (a ∷ b ∷ c ∷ more) = None
 
-unfoldable pub start_of : List ℕ → Start
+unfoldable pub start_of : List ℕ → Option Start
 start_of line = start_fields (fields_of line)

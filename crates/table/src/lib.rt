@@ -1,13 +1,16 @@
 // The lines of a listing: what a line of the input says, and what a line of the output prints.
 #![tactic(auto)]
 
+ghost use Rattle.std.specs.Prelude.{◌≡◌};
+ghost use Rattle.table.specs.Line.{name_of, op_of};
+
 mod lines;
 mod print;
 
 pub use lines::{line_of, start_of};
 pub use print::{put_bad_line, put_refused, put_row};
 
-#[derive(Clone, Copy)]
+#[derive(Clone, Copy, Debug, PartialEq, Eq)]
 pub enum Op {
     Add,
     Call,
@@ -16,24 +19,43 @@ pub enum Op {
     Panic,
 }
 
-#[derive(Clone, Copy)]
-pub enum ReadOp {
-    Known(Op),
-    Bad,
+impl Op {
+    // What a list calls it and the listing prints.
+    fn name(self) -> &'static [u8]
+        ensures { result.now ≡ name_of self }
+    {
+        match self {
+            Op::Add => b"add",
+            Op::Call => b"call",
+            Op::Ok => b"ok",
+            Op::Revert => b"revert",
+            Op::Panic => b"panic",
+        }
+    }
+
+    fn named(name: &[u8]) -> Option<Op>
+        ensures { result ≡ op_of name.now }
+    {
+        [Op::Add, Op::Call, Op::Ok, Op::Revert, Op::Panic]
+            .iter()
+            .copied()
+            .find(|op| name == op.name())
+    }
 }
 
 // A line of the list, from the fourth on.
 #[derive(Clone, Copy)]
-pub enum Line {
-    Run { op: Op, price: u32, want: u32 },
-    Bad,
+pub struct Line {
+    pub op: Op,
+    pub price: u32,
+    pub want: u32,
 }
 
 // The second line.
 #[derive(Clone, Copy)]
-pub enum Start {
-    From { ergs: u32, limit: u32 },
-    Bad,
+pub struct Start {
+    pub ergs: u32,
+    pub limit: u32,
 }
 
 // What a line of the output shows.

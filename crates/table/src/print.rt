@@ -1,54 +1,50 @@
-// What the listing prints, written on a buffer.
-ghost use Rattle.text.specs.Bytes.{Wrote};
-ghost use Rattle.table.specs.Line.{name_of};
+// What the listing prints.
+ghost use Rattle.text.specs.Bytes.{Wrote, bytes_of};
+ghost use Rattle.std.specs.Prelude.{◌++◌};
 ghost use Rattle.table.specs.Row.{field, row_text, bad_line, refused_with};
 
-use crate::{Op, Row};
+use crate::Row;
+use text::Writer;
 
 // A number, and the byte after it.
-fn put_field(buffer: &mut [u8], at: usize, n: u64, separator: u8) -> usize
-    ensures { Wrote buffer.old at (field n separator) buffer.new result }
+fn put_field(writer: &mut Writer<'_>, number: u64, separator: u8)
+    ensures { Wrote writer.old (field number separator) writer.new }
 {
-    let position = text::put_number(buffer, at, n);
-    text::put_byte(buffer, position, separator)
+    writer.put_number(number);
+    writer.put_byte(separator);
 }
 
-fn put_name(buffer: &mut [u8], at: usize, op: Op) -> usize
-    ensures { Wrote buffer.old at (name_of op) buffer.new result }
+// Not by `write!`, which promises its text only where it answers Ok.
+pub fn put_row(writer: &mut Writer<'_>, row: Row)
+    ensures { Wrote writer.old (row_text row) writer.new }
 {
-    match op {
-        Op::Add => text::put_bytes(buffer, at, b"add"),
-        Op::Call => text::put_bytes(buffer, at, b"call"),
-        Op::Ok => text::put_bytes(buffer, at, b"ok"),
-        Op::Revert => text::put_bytes(buffer, at, b"revert"),
-        Op::Panic => text::put_bytes(buffer, at, b"panic"),
-    }
+    put_field(writer, row.cycle, b' ');
+    writer.put_bytes(row.op.name());
+    writer.put_byte(b' ');
+    put_field(writer, u64::from(row.charge), b' ');
+    put_field(writer, u64::from(row.depth), b' ');
+    put_field(writer, u64::from(row.held), b' ');
+    put_field(writer, row.total, b' ');
+    put_field(writer, row.own, b'\n');
 }
 
-pub fn put_row(buffer: &mut [u8], at: usize, row: Row) -> usize
-    ensures { Wrote buffer.old at (row_text row) buffer.new result }
+// A line of a label and a number.
+fn put_labelled(writer: &mut Writer<'_>, label: &[u8], number: u64)
+    ensures { Wrote writer.old (label.now ++ field number 10) writer.new }
 {
-    let op = row.op;
-    let p1 = put_field(buffer, at, row.cycle, 32);
-    let p2 = put_name(buffer, p1, op);
-    let p3 = text::put_byte(buffer, p2, 32);
-    let p4 = put_field(buffer, p3, row.charge as u64, 32);
-    let p5 = put_field(buffer, p4, row.depth as u64, 32);
-    let p6 = put_field(buffer, p5, row.held as u64, 32);
-    let p7 = put_field(buffer, p6, row.total, 32);
-    put_field(buffer, p7, row.own, 10)
+    writer.put_bytes(label);
+    put_field(writer, number, b'\n');
 }
 
-pub fn put_bad_line(buffer: &mut [u8], at: usize, n: u64) -> usize
-    ensures { Wrote buffer.old at (bad_line n) buffer.new result }
+pub fn put_bad_line(writer: &mut Writer<'_>, n: u64)
+    ensures { Wrote writer.old (bad_line n) writer.new }
 {
-    let position = text::put_bytes(buffer, at, b"bad line ");
-    put_field(buffer, position, n, 10)
+    put_labelled(writer, b"bad line ", n);
 }
 
-pub fn put_refused(buffer: &mut [u8], at: usize, number: u32) -> usize
-    ensures { Wrote buffer.old at (refused_with number) buffer.new result }
+// A number, since any is printed the same.
+pub fn put_refused(writer: &mut Writer<'_>, number: u32)
+    ensures { Wrote writer.old (refused_with number) writer.new }
 {
-    let position = text::put_bytes(buffer, at, b"refused ");
-    put_field(buffer, position, number as u64, 10)
+    put_labelled(writer, b"refused ", u64::from(number));
 }

@@ -1,17 +1,17 @@
 -- Bytes compared, and written on a buffer. Assumes nothing.
-use Prim.Native.Nat.{ℕ, suc, ◌+◌, ◌≤◌, min}
+use Prim.Native.Nat.{ℕ, suc, ◌+◌, ◌≤◌, ◌-◌, min}
 use mathlib.Core.Bool.{Bool, true, false, ◌&&◌}
-use mathlib.Core.Logic.{◌⊎◌, inl, inr}
 use mathlib.Core.Path.{◌≡◌, refl, sym, ap, ◌∙◌}
 use mathlib.Core.List.{List, [], ◌∷◌, ◌++◌}
 use native.Mathlib.Nat.{add-zero, add-suc, suc-add, zero-add, min-eq_left}
 use native.Mathlib.Decide.{dec_le}
 use native.Mathlib.Omega.{arith}
-use lib.Dec.{eqb, ltb}
-use lib.ListN.{length, take, drop, set, length-append, drop_of_length-le}
+use lib.Dec.{eqb}
+use lib.ListN.{length, take, drop, set, length-append}
 use lib.Seq.{sets, sets-eq, length-sets, set_out, take_at, drop_at}
-use borrow.Author.Tests.{ltb-false}
-use Rattle.std.proofs.lemmas.Bool.{and_cases}
+use borrow.Rule.Slice.PartMut.{put_mid}
+use Rattle.std.proofs.lemmas.List.{take-append-drop, length-take-le, append_assoc, drop-drop, length-drop}
+use Rattle.text.specs.declared.Writer.{Writer}
 use Rattle.text.specs.Bytes.{same_bytes, Wrote}
 
 -- bytes of other lengths are not the same
@@ -43,29 +43,51 @@ sets_append : (buffer : List ℕ) (at : ℕ) (a b : List ℕ) → sets buffer at
 sets_append buffer at [] b = rw add-zero
 sets_append buffer at (x ∷ xs) b = rw (add-suc, ← suc-add) (sets_append (set buffer at x) (suc at) xs b)
 
-module _ (buffer : List ℕ) (at : ℕ) where
-  -- what is written after what was written is written with it
-  pub join : (a b : List ℕ) {p1 : List ℕ} {r1 : ℕ} {p2 : List ℕ} {r2 : ℕ} → Wrote buffer at a p1 r1 → Wrote p1 r1 b p2 r2 → Wrote buffer at (a ++ b) p2 r2
-  join a b {p1} {r1} {p2} {r2} u v =
-      let same : length p1 ≡ length buffer = ap length u.1 ∙ length-sets buffer at a in
-      let position : r1 ≡ min (at + length a) (length p1) = u.0 ∙ ap (min (at + length a)) (sym same) in
-      (omega (arith, length-append a b), v.1 ∙ ap (λ (r : ℕ). sets p1 r b) position ∙ sets_min p1 (at + length a) b ∙ ap (λ (p : List ℕ). sets p (at + length a) b) u.1 ∙ sym (sets_append buffer at a b))
+-- text that fits, before text for which there is no room
+sets_fit : (buffer : List ℕ) (at : ℕ) (a b : List ℕ) → at + length a ≤ length buffer → min (length b) (length buffer - (at + length a)) ≡ 0
+    → sets buffer at (a ++ b) ≡ put_mid at (length a) buffer a
+sets_fit buffer at a b h m =
+    sets_append buffer at a b
+    ∙ no_room b (omega (arith, length-sets buffer at a))
+    ∙ sets-eq a buffer at h
+    ∙ rw (append_assoc, drop-drop (length a) at buffer)
+  where
+    no_room : (b : List ℕ) → min (length b) (length (sets buffer at a) - (at + length a)) ≡ 0 → sets (sets buffer at a) (at + length a) b ≡ sets buffer at a
+    no_room [] e = refl
+    no_room (x ∷ xs) e = sets_out (sets buffer at a) (at + length a) (x ∷ xs) (omega arith)
 
+-- a text, of which as much is copied as there is room for
+pub sets_part : (buffer : List ℕ) (at : ℕ) (bytes : List ℕ) {start size : ℕ} → start ≡ min at (length buffer) → size ≡ min (length bytes) (length buffer - start)
+    → {part : List ℕ} → part ≡ take size bytes → {k : ℕ} → k ≡ size → put_mid start k buffer part ≡ sets buffer at bytes
+sets_part buffer at bytes {start} {size} e f {part} g {k} h =
+    let long : length (take size bytes) ≡ size = length-take-le size bytes (omega arith) in
+    let fit : sets buffer start (take size bytes ++ drop size bytes) ≡ put_mid start (length (take size bytes)) buffer (take size bytes) =
+    sets_fit buffer start (take size bytes) (drop size bytes) (omega arith) (omega (arith, length-drop size bytes)) in
+    rw (g, h) (sym (rw long at fit) ∙ rw (take-append-drop, e) (sets_min buffer at bytes))
+
+-- what is written after what was written is written with it
+pub join : (old : Writer) (a b : List ℕ) {between new : Writer} → Wrote old a between → Wrote between b new → Wrote old (a ++ b) new
+join old a b {between} u v =
+    let buffer = old.buffer.now in
+    let at = old.position in
+    let same : length between.buffer.now ≡ length buffer = ap length u.bytes ∙ length-sets buffer at a in
+    let position : between.position ≡ min (at + length a) (length between.buffer.now) = u.position ∙ ap (min (at + length a)) (sym same) in
+    record {
+      bytes =
+          v.bytes ∙ ap (λ (r : ℕ). sets between.buffer.now r b) position ∙ sets_min between.buffer.now (at + length a) b
+          ∙ ap (λ (p : List ℕ). sets p (at + length a) b) u.bytes ∙ sym (sets_append buffer at a b);
+      position = omega (arith, v.position, length-append a b);
+      same = v.same ∙ u.same;
+    }
+
+module _ (old : Writer) where
   -- the same text, said in another way
-  pub wrote_same : {a b : List ℕ} {after : List ℕ} {r : ℕ} → b ≡ a → Wrote buffer at a after r → Wrote buffer at b after r
+  pub wrote_same : {a b : List ℕ} {new : Writer} → b ≡ a → Wrote old a new → Wrote old b new
   wrote_same e w = rw e w
 
-  -- nothing is written
-  pub wrote_none : at ≤ length buffer → Wrote buffer at [] buffer at
-  wrote_none h = (omega arith, refl)
-
   -- the buffer stays as long as it was
-  pub wrote_length : (text : List ℕ) {after : List ℕ} {r : ℕ} → Wrote buffer at text after r → length after ≡ length buffer
-  wrote_length text w = ap length w.1 ∙ length-sets buffer at text
-
-  -- the position after the text is on the buffer or at its end
-  pub wrote_position : (text : List ℕ) {after : List ℕ} {r : ℕ} → Wrote buffer at text after r → r ≤ length after
-  wrote_position text w = omega (arith, wrote_length text w)
+  pub wrote_length : (text : List ℕ) {new : Writer} → Wrote old text new → length new.buffer.now ≡ length old.buffer.now
+  wrote_length text w = ap length w.bytes ∙ length-sets old.buffer.now old.position text
 
 -- a text that fits on the buffer stands at its front, before what stood there
 pub whole : (buffer text : List ℕ) → length text ≤ length buffer
@@ -75,33 +97,3 @@ whole buffer text h =
       ap (take (length text)) e ∙ take_at text (drop (length text) buffer) (length text) refl,
       ap (drop (length text)) e ∙ drop_at text (drop (length text) buffer) (length text) refl,
     )
-
--- a loop that writes bytes on a buffer, of which i are written
-pub record Putting (given : List ℕ) (at : ℕ) (bytes : List ℕ) (size : ℕ) (buffer : List ℕ) (position i : ℕ) : Type 0 where
-  pub given_size : length given ≡ size
-  pub same : length buffer ≡ size
-  pub upto : i ≤ length bytes
-  pub next : position ≡ min (at + i) size
-  pub rest : sets given at bytes ≡ sets buffer position (drop i bytes)
-
-pub putting_none : (given : List ℕ) (at : ℕ) (bytes : List ℕ) (position : ℕ) → position ≡ min at (length given) → Putting given at bytes (length given) given position 0
-putting_none given at bytes position e = record {
-  given_size = refl;
-  same = refl;
-  upto = omega arith;
-  next = omega arith;
-  rest = rw e (sym (sets_min given at bytes));
-}
-
-module _ (given : List ℕ) (at : ℕ) (bytes : List ℕ) (size : ℕ) (buffer : List ℕ) (position i : ℕ) (p : Putting given at bytes size buffer position i) where
-  -- the loop ends with the bytes, or at the buffer's end
-  pub putting_done : (ltb i (length bytes) && ltb position size) ≡ false → Wrote given at bytes buffer position
-  putting_done stop = go (and_cases (ltb i (length bytes)) (ltb position size) stop)
-    where
-      go : (ltb i (length bytes) ≡ false) ⊎ (ltb position size ≡ false) → Wrote given at bytes buffer position
-      go (inl e) =
-          let all : length bytes ≤ i = ltb-false i (length bytes) e in
-          (omega arith, sym (rw (drop_of_length-le bytes all) at p.rest))
-      go (inr e) =
-          let full : size ≤ position = ltb-false position size e in
-          (omega arith, sym (p.rest ∙ sets_out buffer position (drop i bytes) (omega arith)))

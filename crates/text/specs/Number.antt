@@ -1,6 +1,5 @@
--- Numbers as text. Bad by document 01: "a value not plain decimal digits, above 32 bits".
-use Rattle.std.specs.Prelude.{ℕ, zero, suc, ◌+◌, ◌*◌, ◌-◌, ◌/◌, ◌%◌, ◌^◌, Bool, true, false, cond, ◌&&◌, List, [], ◌∷◌, ◌++◌, ltb, leb}
-use Rattle.text.specs.declared.Number.{Number}
+-- Numbers as text. None by document 01: "a value not plain decimal digits, above 32 bits".
+use Rattle.std.specs.Prelude.{ℕ, zero, suc, ◌+◌, ◌*◌, ◌-◌, ◌/◌, ◌%◌, ◌^◌, Bool, true, false, cond, ◌&&◌, List, [], ◌∷◌, ◌++◌, Option, Some, None, ltb, leb}
 
 -- bytes 48 to 57 are the digits 0 to 9
 abbrev pub is_digit : ℕ → Bool
@@ -21,9 +20,9 @@ decimal_after n [] = n
 decimal_after n (b ∷ bs) = decimal_after (n * 10 + (b - 48)) bs
 
 -- plain decimal digits that say a number of 32 bits; zeros may stand in front
-unfoldable pub number_of : List ℕ → Number
+unfoldable pub number_of : List ℕ → Option ℕ
 number_of field =
-    cond (is_some field && all_digits field && ltb (decimal_after 0 field) (2 ^ 32)) (Number.Value (decimal_after 0 field)) Number.Bad
+    cond (is_some field && all_digits field && ltb (decimal_after 0 field) (2 ^ 32)) (Some (decimal_after 0 field)) None
 
 -- the digits of n, with no zero in front, for n of at most k + 1 digits
 abbrev pub digits_in : ℕ → ℕ → List ℕ

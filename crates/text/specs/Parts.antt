@@ -1,6 +1,6 @@
 -- The parts of some bytes between separators: the lines of an input, the fields of a line. Document 01: "fields not parted by one space"; "The last line may lack
 -- its line end."
-use Rattle.std.specs.Prelude.{ℕ, ◌+◌, cond, List, [], ◌∷◌, eqb, length, drop}
+use Rattle.std.specs.Prelude.{ℕ, cond, List, [], ◌∷◌, eqb}
 
 -- a byte in front of the first part
 abbrev pub onto : ℕ → List (List ℕ) → List (List ℕ)
@@ -19,12 +19,3 @@ lines_of bytes = cut 10 [] bytes
 -- fields: parted by one space (byte 32), so an empty field is left after a last space
 abbrev pub fields_of : List ℕ → List (List ℕ)
 fields_of line = cut 32 ([] ∷ []) line
-
--- the bytes before the first separator, all if there is none
-abbrev pub first_part : ℕ → List ℕ → List ℕ
-first_part separator [] = []
-first_part separator (b ∷ bs) = cond (eqb b separator) [] (b ∷ first_part separator bs)
-
--- where the part that begins at a position ends
-abbrev pub part_end : ℕ → List ℕ → ℕ → ℕ
-part_end separator bytes at = at + length (first_part separator (drop at bytes))

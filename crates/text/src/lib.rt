@@ -1,110 +1,115 @@
 // Text as bytes: parts between separators, numbers read and written, and a buffer to write on. Nothing here refuses: what does not fit on the buffer is left out.
 #![tactic(auto)]
 
-ghost use Rattle.std.specs.Prelude.{◌≡◌, [], ◌∷◌};
-ghost use Rattle.text.specs.Bytes.{same_bytes, Wrote};
-ghost use Rattle.text.specs.Parts.{part_end};
+ghost use Rattle.std.specs.Prelude.{◌≡◌, ◌<◌, ◌^◌, ◌==◌, [], ◌∷◌, length};
+ghost use Rattle.std.specs.List.{position_or_len};
 ghost use Rattle.text.specs.Number.{number_of, digits_of};
 
-// A number of 32 bits, or no such number.
+// Where the first line ends: before its line end, or with the bytes.
+fn line_end(bytes: &[u8]) -> usize
+    ensures { result ≡ position_or_len (λ b. b == 10) bytes.now }
+{
+    bytes
+        .iter()
+        .position(|byte| *byte == b'\n')
+        .unwrap_or(bytes.len())
+}
+
+// The lines that are left of some bytes.
 #[derive(Clone, Copy)]
-pub enum Number {
-    Value(u32),
-    Bad,
+pub struct Lines<'a> {
+    rest: &'a [u8],
+
+    // As long as a slice can be, so the lines can be counted.
+    ghost short: { length rest.now < 2 ^ 63 },
 }
 
-pub fn same_bytes(a: &[u8], b: &[u8]) -> bool
-    ensures { result ≡ same_bytes a.now b.now }
-{
-    if a.len() != b.len() {
-        return false;
+impl<'a> Lines<'a> {
+    ghost use Rattle.text.specs.Parts.{lines_of};
+    ghost use Rattle.text.specs.Lines.{lines_left};
+
+    pub fn new(bytes: &'a [u8]) -> Self
+        ensures { lines_left result ≡ lines_of bytes.now }
+    {
+        Lines { rest: bytes }
     }
-    let mut i = 0;
-    while i < a.len() {
-        if a[i] != b[i] {
-            return false;
+}
+
+impl<'a> Iterator for Lines<'a> {
+    type Item = &'a [u8];
+
+    ghost use Rattle.std.specs.Iterator.{YieldsFirstRef, item_count};
+    ghost use Rattle.text.specs.Lines.{lines_left};
+
+    ghost next_gives = { YieldsFirstRef lines_left };
+
+    ghost remaining = { item_count lines_left };
+
+    fn next(&mut self) -> Option<&'a [u8]> {
+        let rest = self.rest;
+        if rest.is_empty() {
+            return None;
         }
-        i += 1;
+        let (line, others) = rest.split_at(line_end(rest));
+        self.rest = &others[others.len().min(1)..];
+        Some(line)
     }
-    true
 }
 
-// Where the part that begins at a position ends: at the next separator, or with the bytes.
-pub fn part_end(bytes: &[u8], at: usize, separator: u8) -> usize
-    ensures { result ≡ part_end separator bytes.now at }
-{
-    let mut i = at;
-    while i < bytes.len() {
-        if bytes[i] == separator {
-            return i;
-        }
-        i += 1;
-    }
-    i
-}
-
-// Stops at a byte that is no digit, and as soon as the number is too large.
-pub fn read_number(field: &[u8]) -> Number
+// A number of 32 bits in plain decimal digits. Not std's `parse`, which takes a `+` in front.
+pub fn read_number(field: &[u8]) -> Option<u32>
     ensures { result ≡ number_of field.now }
 {
-    if field.len() == 0 {
-        return Number::Bad;
+    if field.is_empty() {
+        return None;
     }
-    let mut n: u64 = 0;
-    let mut i = 0;
-    while i < field.len() {
-        let b = field[i];
-        if (b < 48) | (57 < b) {
-            return Number::Bad;
+    let mut number: u32 = 0;
+    for byte in field {
+        let b'0'..=b'9' = *byte else {
+            return None;
+        };
+        number = number
+            .checked_mul(10)?
+            .checked_add(u32::from(*byte - b'0'))?;
+    }
+    Some(number)
+}
+
+// A buffer to write text on. The text is written from the position on, and what does not fit is left out.
+#[derive(Drop)]
+pub struct Writer<'a> {
+    pub buffer: &'a mut [u8],
+    pub position: usize,
+}
+
+impl<'a> Writer<'a> {
+    ghost use Rattle.text.specs.Bytes.{Wrote};
+
+    pub fn put_byte(&mut self, byte: u8)
+        ensures { Wrote self.old (byte ∷ []) self.new }
+    {
+        if self.position < self.buffer.len() {
+            self.buffer[self.position] = byte;
+            self.position += 1;
+        } else {
+            self.position = self.buffer.len();
         }
-        n = n * 10 + (b as u64 - 48);
-        if 0xffff_ffff < n {
-            return Number::Bad;
-        }
-        i += 1;
     }
-    Number::Value(n as u32)
-}
 
-// Writes the bytes from a position of the buffer on, and gives the position after them.
-pub fn put_bytes(buffer: &mut [u8], at: usize, bytes: &[u8]) -> usize
-    ensures { Wrote buffer.old at bytes.now buffer.new result }
-{
-    let size = buffer.len();
-    let mut position = if at < size { at } else { size };
-    let mut i = 0;
-    while (i < bytes.len()) & (position < size) {
-        buffer[position] = bytes[i];
-        position += 1;
-        i += 1;
+    pub fn put_bytes(&mut self, bytes: &[u8])
+        ensures { Wrote self.old bytes.now self.new }
+    {
+        let start = self.position.min(self.buffer.len());
+        let size = bytes.len().min(self.buffer.len() - start);
+        self.buffer[start..start + size].copy_from_slice(&bytes[..size]);
+        self.position = start + size;
     }
-    position
-}
 
-pub fn put_byte(buffer: &mut [u8], at: usize, byte: u8) -> usize
-    ensures { Wrote buffer.old at (byte ∷ []) buffer.new result }
-{
-    let size = buffer.len();
-    if at < size {
-        buffer[at] = byte;
-        at + 1
-    } else {
-        size
+    // Writes the decimal digits of a number.
+    pub fn put_number(&mut self, number: u64)
+        ensures { Wrote self.old (digits_of number) self.new }
+    {
+        let mut digits = itoa::Buffer::new();
+        self.put_bytes(digits.format(number).as_bytes());
     }
-}
-
-// Writes the decimal digits of a number, which are filled in from the end of twenty places.
-pub fn put_number(buffer: &mut [u8], at: usize, n: u64) -> usize
-    ensures { Wrote buffer.old at (digits_of n) buffer.new result }
-{
-    let mut digits = [48u8; 20];
-    let mut first: usize = 19;
-    let mut rest = n;
-    while 10 <= rest {
-        digits[first] = 48 + (rest % 10) as u8;
-        rest /= 10;
-        first -= 1;
-    }
-    digits[first] = 48 + rest as u8;
-    put_bytes(buffer, at, &digits[first..])
 }

@@ -1,15 +1,19 @@
-use Rattle.std.proofs.Common.{arith}
+use Rattle.std.proofs.Common.{arith, sym, ◌∙◌}
+use Rattle.std.proofs.lemmas.Bool.Decides.{nat_tests}
 use Rattle.text.proofs.NumberLaws as laws
 use Rattle.text.proofs.read_number.Goals as goal
 
-pub returns-then-field-eq0 : goal.returns-then-field-eq0
-returns-then-field-eq0 c = laws.bad_none c.args.field.now c.if-field-eq0.true
+pub returns-then-is_empty : goal.returns-then-is_empty
+returns-then-is_empty c = laws.reading_none c.args.field.now (grind (arith, nat_tests))
 
-pub returns-then-b : goal.returns-then-b
-returns-then-b c = laws.bad_byte _ _ _ c.loop-i.invariant (omega arith) c.if-b.true
+pub loop-byte-init : goal.loop-byte-init
+loop-byte-init c = (omega arith, laws.reading_first c.args.field.now (λ h. grind (arith, nat_tests)))
 
-pub returns-then-n-gt4294967295 : goal.returns-then-n-gt4294967295
-returns-then-n-gt4294967295 c = laws.bad_large _ _ _ c.loop-i.invariant (omega arith) c.if-b.false c.if-n-gt4294967295.true
+pub returns-in_err-checked_mul : goal.returns-in_err-checked_mul
+returns-in_err-checked_mul c = c.from_residual.ensures ∙ sym (c.loop-byte.invariant.1 ∙ laws.reading_past c.loop-byte.number c.args.field.now c.loop-byte.byte-index c.loop-byte-test.true (grind (arith, nat_tests)) (grind (arith, nat_tests)))
+
+pub returns-in_err-number : goal.returns-in_err-number
+returns-in_err-number c = c.from_residual-in_err-number.ensures ∙ sym (c.loop-byte.invariant.1 ∙ laws.reading_past c.loop-byte.number c.args.field.now c.loop-byte.byte-index c.loop-byte-test.true (grind (arith, nat_tests)) (grind (arith, nat_tests)))
 
 pub returns : goal.returns
-returns c = laws.reading_done _ _ _ c.loop-i.invariant c.loop-i-test.false
+returns c = sym (c.loop-byte.invariant.1 ∙ laws.reading_done c.loop-byte.number c.args.field.now c.loop-byte.byte-index (omega arith) c.loop-byte-test.false)

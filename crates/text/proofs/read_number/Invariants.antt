@@ -1,9 +1,7 @@
-use Rattle.std.proofs.Common.{◌-◌, length}
-use Rattle.text.proofs.NumberLaws as laws
+use Rattle.std.proofs.Common.{◌≡◌, ◌<◌, ◌^◌, drop}
+use Rattle.text.specs.Number.{number_of}
+use Rattle.text.proofs.NumberLaws.{reading}
 use Rattle.text.proofs.read_number.Given as goal
 
-abbrev pub invariant-loop-i : goal.invariant-loop-i
-invariant-loop-i l = laws.Reading l.field l.n l.i
-
-abbrev pub decreases-loop-i : goal.decreases-loop-i
-decreases-loop-i l = length l.field - l.i
+abbrev pub invariant-loop-byte : goal.invariant-loop-byte
+invariant-loop-byte l = (l.number < 2 ^ 32) × (number_of l.field ≡ reading l.number (drop l.byte-index l.field))

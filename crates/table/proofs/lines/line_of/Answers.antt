@@ -1,26 +1,46 @@
-use Rattle.std.proofs.Common.{arith}
+use Rattle.std.proofs.Common.{eqb, ◌∙◌, sym, rules, tests}
+use Rattle.std.proofs.lemmas.Iterator.Splits.{YieldsList-from_slice_split}
 use Rattle.table.proofs.LineLaws as laws
 use Rattle.table.proofs.lines.line_of.Goals as goal
 
-pub returns-then-first-line : goal.returns-then-first-line
-returns-then-first-line c = laws.line_one c.args.line.now c.part_end-first.ensures c.if-first-line.true
+pub returns-in_err-op : goal.returns-in_err-op
+returns-in_err-op c =
+    let line = c.args.line.now in
+    c.from_residual-in_err-op.ensures ∙ laws.line_no_op line (YieldsList-from_slice_split _ (λ b. eqb b 32) line c.split-fields.ensures.rest c.split-fields.ensures.done c.split-fields.ensures.closure (λ x b q k. search (rules, tests)))
+    c.next.ensures.steps c.in_ok-next.was c.named.ensures c.in_err-op.was
 
-pub overflow_add-second_at : goal.overflow_add-second_at
-overflow_add-second_at c = omega (arith, laws.first_inside c.args.line.now c.part_end-first.ensures c.if-first-line.false)
+pub returns-in_err-next-2 : goal.returns-in_err-next-2
+returns-in_err-next-2 c =
+    let line = c.args.line.now in
+    c.from_residual-in_err-next-2.ensures ∙ laws.line_one line (YieldsList-from_slice_split _ (λ b. eqb b 32) line c.split-fields.ensures.rest c.split-fields.ensures.done c.split-fields.ensures.closure (λ x b q k. search (rules, tests)))
+    c.next.ensures.steps c.in_ok-next.was c.next-2.ensures.steps c.in_err-next-2.was
 
-pub returns-then-second-line : goal.returns-then-second-line
-returns-then-second-line c = laws.line_two c.args.line.now c.part_end-first.ensures c.if-first-line.false c.part_end-second.ensures c.if-second-line.true
+pub returns-in_err-price : goal.returns-in_err-price
+returns-in_err-price c =
+    let line = c.args.line.now in
+    c.from_residual-in_err-price.ensures ∙ laws.line_no_price line (YieldsList-from_slice_split _ (λ b. eqb b 32) line c.split-fields.ensures.rest c.split-fields.ensures.done c.split-fields.ensures.closure (λ x b q k. search (rules, tests)))
+    c.next.ensures.steps c.in_ok-next.was c.next-2.ensures.steps c.in_ok-next-2.was c.read_number.ensures c.in_err-price.was
 
-pub overflow_add-third_at : goal.overflow_add-third_at
-overflow_add-third_at c =
-    omega (arith, laws.second_inside c.args.line.now c.part_end-first.ensures c.if-first-line.false c.part_end-second.ensures c.if-second-line.false)
+pub returns-in_err-next-3 : goal.returns-in_err-next-3
+returns-in_err-next-3 c =
+    let line = c.args.line.now in
+    c.from_residual-in_err-next-3.ensures ∙ laws.line_two line (YieldsList-from_slice_split _ (λ b. eqb b 32) line c.split-fields.ensures.rest c.split-fields.ensures.done c.split-fields.ensures.closure (λ x b q k. search (rules, tests)))
+    c.next.ensures.steps c.in_ok-next.was c.next-2.ensures.steps c.in_ok-next-2.was c.next-3.ensures.steps c.in_err-next-3.was
 
-pub returns-then-third-line : goal.returns-then-third-line
-returns-then-third-line c =
-    laws.line_more c.args.line.now c.part_end-first.ensures c.if-first-line.false c.part_end-second.ensures c.if-second-line.false
-    c.part_end-third.ensures c.if-third-line.true
+pub returns-in_err-want : goal.returns-in_err-want
+returns-in_err-want c =
+    let line = c.args.line.now in
+    c.from_residual-in_err-want.ensures ∙ laws.line_no_want line (YieldsList-from_slice_split _ (λ b. eqb b 32) line c.split-fields.ensures.rest c.split-fields.ensures.done c.split-fields.ensures.closure (λ x b q k. search (rules, tests)))
+    c.next.ensures.steps c.in_ok-next.was c.next-2.ensures.steps c.in_ok-next-2.was c.next-3.ensures.steps c.in_ok-next-3.was c.read_number-2.ensures c.in_err-want.was
+
+pub returns-then-is_some : goal.returns-then-is_some
+returns-then-is_some c =
+    let line = c.args.line.now in
+    laws.line_more line (YieldsList-from_slice_split _ (λ b. eqb b 32) line c.split-fields.ensures.rest c.split-fields.ensures.done c.split-fields.ensures.closure (λ x b q k. search (rules, tests)))
+    c.next.ensures.steps c.in_ok-next.was c.next-2.ensures.steps c.in_ok-next-2.was c.next-3.ensures.steps c.in_ok-next-3.was c.next-4.ensures.steps (sym c.is_some.ensures ∙ c.if-is_some.true)
 
 pub returns : goal.returns
 returns c =
-    laws.line_three c.args.line.now c.part_end-first.ensures c.if-first-line.false c.part_end-second.ensures c.if-second-line.false
-    c.part_end-third.ensures c.if-third-line.false c.op_of-op.ensures c.read_number-price.ensures c.read_number-want.ensures c.run_of.ensures
+    let line = c.args.line.now in
+    laws.line_three line (YieldsList-from_slice_split _ (λ b. eqb b 32) line c.split-fields.ensures.rest c.split-fields.ensures.done c.split-fields.ensures.closure (λ x b q k. search (rules, tests)))
+    c.next.ensures.steps c.in_ok-next.was c.next-2.ensures.steps c.in_ok-next-2.was c.next-3.ensures.steps c.in_ok-next-3.was c.next-4.ensures.steps (sym c.is_some.ensures ∙ c.if-is_some.false) (sym c.named.ensures ∙ c.in_ok-op.was) (sym c.read_number.ensures ∙ c.in_ok-price.was) (sym c.read_number-2.ensures ∙ c.in_ok-want.was)

@@ -4,4 +4,4 @@ use Rattle.text.proofs.BytesLaws.{join}
 use Rattle.table.proofs.print.put_field.Goals as goal
 
 pub returns : goal.returns
-returns c = join c.args.buffer.now c.args.at (digits_of c.args.n) (c.args.separator ∷ []) c.put_number-position.ensures c.put_byte.ensures
+returns c = join c.args.writer.now (digits_of c.args.number) (c.args.separator ∷ []) c.put_number.ensures c.put_byte.ensures

@@ -1,7 +1,8 @@
-use Rattle.table.proofs.RowLaws as laws
+use Rattle.table.proofs.RowLaws.{wrote_row}
 use Rattle.table.proofs.print.put_row.Goals as goal
 
 pub returns : goal.returns
 returns c =
-    laws.wrote_row c.args.buffer.now c.args.at c.args.row c.put_field-p1.ensures c.put_name-p2.ensures c.put_byte-p3.ensures c.put_field-p4.ensures
-    c.put_field-p5.ensures c.put_field-p6.ensures c.put_field-p7.ensures c.put_field.ensures
+    wrote_row c.args.writer.now c.args.row c.put_field.ensures (rw c.name.ensures at c.put_bytes.ensures) c.put_byte.ensures
+    (rw c.from.ensures at c.put_field-2.ensures) (rw c.from-2.ensures at c.put_field-3.ensures) (rw c.from-3.ensures at c.put_field-4.ensures)
+    c.put_field-5.ensures c.put_field-6.ensures
