@@ -1,183 +1,162 @@
-// A ready state, the store and what a cycle is given, from the numbers of a case.
-use crate::{layout, numbers};
-use cycle::{Kept, State};
-use frame::{Frame, PubdataCost, ReadAnswer};
-use rules::{Flags, Location, Record, Records, Settings};
-use stepper::Input;
+// A case, from the numbers of a line: a state, the frame store, and what a cycle is given.
+ghost use Rattle.std.specs.Prelude.{◌≤◌};
+
+use crate::numbers::Numbers;
+use cycle::{Executed, Stage, State};
+use frame::{Frame, PubdataCost, ROW_WIDTH};
+use rules::{Flags, Record, Records, Settings};
+use stepper::{Cycled, Input};
 use u256::U256;
 
-fn set(words: &mut [u32], i: usize, word: u32) {
-    if i < words.len() {
-        words[i] = word;
+// The greatest limit and depth that are served.
+const MOST_ROWS: u32 = 16;
+
+// The words of a store for them: nothing is allocated, so each case has room for the greatest.
+pub(crate) const STORE: usize = MOST_ROWS as usize * ROW_WIDTH;
+
+#[derive(Drop)]
+pub(crate) struct Case {
+    pub store: [u32; STORE],
+    state: State,
+    input: Input,
+}
+
+// The words of so many rows, at most those of a store.
+pub(crate) fn words_of(rows: u32) -> usize
+    ensures { result ≤ STORE }
+{
+    rows.min(MOST_ROWS) as usize * ROW_WIDTH
+}
+
+impl Case {
+    // None where the line is no case.
+    pub(crate) fn of(line: &[u8]) -> Option<Case> {
+        let mut numbers = Numbers::of(line)?;
+        let settings = settings(&mut numbers)?;
+        let state = state(&mut numbers)?;
+        let mut store = [0u32; STORE];
+        for word in &mut store[..words_of(state.depth)] {
+            *word = numbers.read()?;
+        }
+        let input = input(&mut numbers, settings)?;
+        numbers.is_over().then_some(Case {
+            store,
+            state,
+            input,
+        })
+    }
+
+    // As many as the limit; those past the depth are 0.
+    fn rows(&mut self) -> &mut [u32] {
+        let size = words_of(self.input.settings.depth_limit);
+        &mut self.store[..size]
+    }
+
+    // A whole cycle, from the state as it is: ready.
+    pub(crate) fn cycle(&mut self) -> Cycled {
+        stepper::cycle(self.state, self.input, self.rows())
+    }
+
+    // Execute alone, from the state in mid-cycle that keeps the plain record.
+    pub(crate) fn execute(&mut self) -> Executed {
+        let input = self.input;
+        let mut state = self.state;
+        state.kept.instruction = input.records.plain;
+        state.stage = Stage::Execute as u8;
+        state.execute(input.settings, self.rows(), input.source, input.pointer)
     }
 }
 
-// The numbers from `first` on, `count` of them; those past the end of the words are left out.
-fn fill(words: &mut [u32], numbers: &[u64], first: usize, count: usize) {
-    let mut i = 0;
-    while i < count {
-        set(words, i, numbers::u32_at(numbers, first, i));
-        i += 1;
-    }
+// A limit or a depth.
+fn rows(numbers: &mut Numbers) -> Option<u32> {
+    numbers.read().filter(|rows| *rows <= MOST_ROWS)
 }
 
-pub(crate) fn fill_store(store: &mut [u32], numbers: &[u64]) {
-    let count = layout::words_of(layout::depth_of(numbers));
-    fill(store, numbers, layout::ROWS, count);
+fn settings(numbers: &mut Numbers) -> Option<Settings> {
+    Some(Settings {
+        depth_limit: rows(numbers)?,
+        near_call_multiplier: numbers.read()?,
+        time_step: numbers.read()?,
+    })
+}
+
+fn flags(numbers: &mut Numbers) -> Option<Flags> {
+    Some(Flags {
+        overflow_or_less_than_flag: numbers.read_bit()?,
+        equality_flag: numbers.read_bit()?,
+        greater_than_flag: numbers.read_bit()?,
+    })
 }
 
 // The current frame, where each of its words fits its field.
-pub(crate) fn frame_at(numbers: &[u64]) -> ReadAnswer {
-    let mut row = [0u32; 34];
-    fill(&mut row, numbers, layout::FRAME, frame::ROW_WIDTH);
-    frame::read_frame(&row, 0)
-}
-
-fn word_at(numbers: &[u64], first: usize, i: usize) -> U256 {
-    let place = std::num::wrapping_add_usize(first, i);
-    U256 {
-        w0: numbers::u64_at(numbers, place, 0),
-        w1: numbers::u64_at(numbers, place, 1),
-        w2: numbers::u64_at(numbers, place, 2),
-        w3: numbers::u64_at(numbers, place, 3),
+fn current(numbers: &mut Numbers) -> Option<Frame> {
+    let mut row = [0u32; ROW_WIDTH];
+    for word in &mut row {
+        *word = numbers.read()?;
     }
+    frame::read_frame(&row, 0).ok()
 }
 
-fn registers_at(numbers: &[u64]) -> [U256; 15] {
-    [
-        word_at(numbers, layout::REGISTERS, 0),
-        word_at(numbers, layout::REGISTERS, 5),
-        word_at(numbers, layout::REGISTERS, 10),
-        word_at(numbers, layout::REGISTERS, 15),
-        word_at(numbers, layout::REGISTERS, 20),
-        word_at(numbers, layout::REGISTERS, 25),
-        word_at(numbers, layout::REGISTERS, 30),
-        word_at(numbers, layout::REGISTERS, 35),
-        word_at(numbers, layout::REGISTERS, 40),
-        word_at(numbers, layout::REGISTERS, 45),
-        word_at(numbers, layout::REGISTERS, 50),
-        word_at(numbers, layout::REGISTERS, 55),
-        word_at(numbers, layout::REGISTERS, 60),
-        word_at(numbers, layout::REGISTERS, 65),
-        word_at(numbers, layout::REGISTERS, 70),
-    ]
-}
-
-fn pointers_at(numbers: &[u64]) -> [bool; 15] {
-    [
-        numbers::bit_at(numbers, layout::REGISTERS, 4),
-        numbers::bit_at(numbers, layout::REGISTERS, 9),
-        numbers::bit_at(numbers, layout::REGISTERS, 14),
-        numbers::bit_at(numbers, layout::REGISTERS, 19),
-        numbers::bit_at(numbers, layout::REGISTERS, 24),
-        numbers::bit_at(numbers, layout::REGISTERS, 29),
-        numbers::bit_at(numbers, layout::REGISTERS, 34),
-        numbers::bit_at(numbers, layout::REGISTERS, 39),
-        numbers::bit_at(numbers, layout::REGISTERS, 44),
-        numbers::bit_at(numbers, layout::REGISTERS, 49),
-        numbers::bit_at(numbers, layout::REGISTERS, 54),
-        numbers::bit_at(numbers, layout::REGISTERS, 59),
-        numbers::bit_at(numbers, layout::REGISTERS, 64),
-        numbers::bit_at(numbers, layout::REGISTERS, 69),
-        numbers::bit_at(numbers, layout::REGISTERS, 74),
-    ]
-}
-
-fn flags_at(numbers: &[u64]) -> Flags {
-    Flags {
-        overflow_or_less_than_flag: numbers::bit_at(numbers, layout::FLAGS, 0),
-        equality_flag: numbers::bit_at(numbers, layout::FLAGS, 1),
-        greater_than_flag: numbers::bit_at(numbers, layout::FLAGS, 2),
+// A ready state.
+fn state(numbers: &mut Numbers) -> Option<State> {
+    let mut registers = [U256::default(); 15];
+    let mut pointers = [false; 15];
+    for (register, pointer) in registers.iter_mut().zip(&mut pointers) {
+        *register = numbers.read_word()?;
+        *pointer = numbers.read_bit()?;
     }
+    Some(State {
+        registers,
+        pointers,
+        flags: flags(numbers)?,
+        timestamp: numbers.read()?,
+        monotonic_cycle_counter: numbers.read()?,
+        pending_exception: numbers.read_bit()?,
+        previous_code_word: numbers.read_word()?,
+        previous_code_memory_page: numbers.read()?,
+        previous_super_pc: numbers.read()?,
+        pubdata_revert_counter: PubdataCost(signed::from_word(numbers.read()?)),
+        depth: rows(numbers)?,
+        current: current(numbers)?,
+        ..stepper::start_state(0, 0)
+    })
 }
 
-fn record_at(numbers: &[u64], first: usize) -> Record {
-    Record {
-        operation: numbers::u8_at(numbers, first, 0),
-        return_kind: numbers::u8_at(numbers, first, 1),
-        condition: numbers::u8_at(numbers, first, 2),
-        source_kind: numbers::u8_at(numbers, first, 3),
-        destination_kind: numbers::u8_at(numbers, first, 4),
-        src0: numbers::u8_at(numbers, first, 5),
-        src1: numbers::u8_at(numbers, first, 6),
-        dst0: numbers::u8_at(numbers, first, 7),
-        imm_0: numbers::u16_at(numbers, first, 8),
-        imm_1: numbers::u16_at(numbers, first, 9),
-        price: numbers::u32_at(numbers, first, 10),
-        explicit_panic: numbers::bit_at(numbers, first, 11),
-        kernel_only: numbers::bit_at(numbers, first, 12),
-        allowed_when_static: numbers::bit_at(numbers, first, 13),
-        swap: numbers::bit_at(numbers, first, 14),
-        set_flags: numbers::bit_at(numbers, first, 15),
-        to_label: numbers::bit_at(numbers, first, 16),
-        src0_may_be_pointer: numbers::bit_at(numbers, first, 17),
-        src1_may_be_pointer: numbers::bit_at(numbers, first, 18),
-    }
+fn record(numbers: &mut Numbers) -> Option<Record> {
+    Some(Record {
+        operation: numbers.read()?,
+        return_kind: numbers.read()?,
+        condition: numbers.read()?,
+        source_kind: numbers.read()?,
+        destination_kind: numbers.read()?,
+        src0: numbers.read()?,
+        src1: numbers.read()?,
+        dst0: numbers.read()?,
+        imm_0: numbers.read()?,
+        imm_1: numbers.read()?,
+        price: numbers.read()?,
+        explicit_panic: numbers.read_bit()?,
+        kernel_only: numbers.read_bit()?,
+        allowed_when_static: numbers.read_bit()?,
+        swap: numbers.read_bit()?,
+        set_flags: numbers.read_bit()?,
+        to_label: numbers.read_bit()?,
+        src0_may_be_pointer: numbers.read_bit()?,
+        src1_may_be_pointer: numbers.read_bit()?,
+    })
 }
 
-pub(crate) fn input_at(numbers: &[u64]) -> Input {
-    let first = layout::records_start(numbers);
-    let settings = Settings {
-        depth_limit: numbers::u32_at(numbers, layout::SETTINGS, 0),
-        near_call_multiplier: numbers::u32_at(numbers, layout::SETTINGS, 1),
-        time_step: numbers::u32_at(numbers, layout::SETTINGS, 2),
+fn input(numbers: &mut Numbers, settings: Settings) -> Option<Input> {
+    let records = Records {
+        plain: record(numbers)?,
+        panic: record(numbers)?,
+        nop: record(numbers)?,
     };
-    let plain = record_at(numbers, first);
-    let panic = record_at(numbers, first + 19);
-    let nop = record_at(numbers, first + 38);
-    let records = Records { plain, panic, nop };
-    let code = word_at(numbers, first, 57);
-    let source = word_at(numbers, first, 61);
-    Input {
-        code,
-        source,
+    Some(Input {
+        code: numbers.read_word()?,
+        source: numbers.read_word()?,
         settings,
         records,
-        pointer: numbers::bit_at(numbers, first, 65),
-    }
-}
-
-// What a ready state keeps.
-pub(crate) fn no_kept() -> Kept {
-    let instruction = stepper::instruction(0, 0, 0, 0, 0, 0, 0, 0, 0, 0, false);
-    Kept {
-        instruction,
-        write: Location::None,
-    }
-}
-
-// What is kept after operands, where the plain record is the one that decode kept.
-pub(crate) fn kept_at(numbers: &[u64]) -> Kept {
-    let instruction = record_at(numbers, layout::records_start(numbers));
-    Kept {
-        instruction,
-        write: Location::None,
-    }
-}
-
-pub(crate) fn state_at(numbers: &[u64], current: Frame, kept: Kept, stage: u8) -> State {
-    let registers = registers_at(numbers);
-    let pointers = pointers_at(numbers);
-    let flags = flags_at(numbers);
-    let previous = word_at(numbers, layout::STATE, 3);
-    let none = stepper::word(0);
-    let counter = signed::from_word(numbers::u32_at(numbers, layout::STATE, 9));
-    State {
-        registers,
-        current,
-        previous_code_word: previous,
-        fetched_word: none,
-        kept,
-        flags,
-        previous_code_memory_page: numbers::u32_at(numbers, layout::STATE, 7),
-        timestamp: numbers::u32_at(numbers, layout::STATE, 0),
-        monotonic_cycle_counter: numbers::u32_at(numbers, layout::STATE, 1),
-        depth: numbers::u32_at(numbers, layout::STATE, 10),
-        pubdata_revert_counter: PubdataCost(counter),
-        previous_super_pc: numbers::u16_at(numbers, layout::STATE, 8),
-        pointers,
-        stage,
-        has_word: false,
-        pending_exception: numbers::bit_at(numbers, layout::STATE, 2),
-    }
+        pointer: numbers.read_bit()?,
+    })
 }
