@@ -1,16 +1,15 @@
 -- A line of 58 words of 64 bits: three records of 19 words, plain, panic and nop, and the want.
-use Rattle.std.specs.Prelude.{ℕ, ◌+◌, ◌%◌, ◌^◌, Bool, cond, not, List, length, take, drop, ◌==◌, nat_le, slice_index}
+use Rattle.std.specs.Prelude.{ℕ, ◌+◌, ◌*◌, ◌%◌, ◌^◌, Bool, cond, not, List, length, ◌==◌, nat_le, slice_index}
 use Rattle.u256.specs.declared.U256.{U256}
 use Rattle.rules.specs.declared.Record.{Record}
 use Rattle.rules.specs.declared.Records.{Records}
 use Rattle.cycle.specs.Effects.{no_record}
 
-abbrev pub line_width : ℕ
-line_width = 58
+abbrev pub record_width : ℕ
+record_width = 19
 
--- the line at a position
-abbrev pub line_at : List ℕ → ℕ → List ℕ
-line_at lines at = take line_width (drop at lines)
+abbrev pub line_width : ℕ
+line_width = 3 * record_width + 1
 
 -- yes is any word but 0
 abbrev pub is_set : ℕ → Bool
@@ -44,11 +43,11 @@ record_from line from = record {
 unfoldable pub line_records : List ℕ → Records
 line_records line =
     cond (nat_le line_width (length line))
-    (record { plain = record_from line 0; panic = record_from line 19; nop = record_from line 38 })
+    (record { plain = record_from line 0; panic = record_from line record_width; nop = record_from line (2 * record_width) })
     (record { plain = no_record; panic = no_record; nop = no_record })
 
 abbrev pub want_of : List ℕ → ℕ
-want_of line = slice_index line 57 % 2 ^ 32
+want_of line = slice_index line (3 * record_width) % 2 ^ 32
 
 -- four words of 64 bits from a place on, the lowest first
 abbrev pub word_at : List ℕ → ℕ → U256

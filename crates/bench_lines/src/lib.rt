@@ -1,99 +1,158 @@
-// What the benchmarks' runs share: how far a run has come, what is told at its end, and the reading of a record.
+// What the benchmarks share: the run over lines of words, of which each says the step, what is told at its end, and the reading of a record.
 #![tactic(auto)]
 
-ghost use Rattle.std.specs.Prelude.{◌≡◌, ◌+◌, ◌-◌, ◌%◌, ◌^◌, ◌≤◌, if◌then◌else◌, nat_eq};
-ghost use Rattle.bench_lines.specs.Bench.{cycles_of, flags_number, end_of};
+ghost use Rattle.std.specs.Prelude.{◌≡◌, ℕ, ◌+◌, ◌≤◌, List, length};
+ghost use Rattle.cycle.specs.declared.State.{State};
+ghost use Rattle.stepper.specs.Cycle.{cycle_of, cycle_store};
+ghost use Rattle.bench_lines.specs.Bench.{Given, start_progress, cycles_of, next_line, line_at, cycle_outcome, charged_after, refused_number, flags_number, end_of, run_of};
 
 mod line;
 
 use cycle::State;
-pub use line::{LINE, records_of, want_of};
+pub use line::{LINE, records_of, want_of, word_of};
+use refusal::Refusal;
 use rules::Flags;
+use stepper::Cycled;
 
-// What a cycle gives; the number is that of a refusal, or 0.
+// What a cycle gives.
 #[derive(Clone, Copy)]
 pub struct CycleOutcome {
     pub state: State,
-    pub number: u32,
-    pub charge: u32,
+    pub charge: Result<u32, Refusal>,
 }
 
-// How far a run has come: the sum of the charges, the cycles begun, where the next line begins, and the number of a refusal or 0.
+impl From<Cycled> for CycleOutcome {
+    ghost from_gives = { λ cycled result. result ≡ cycle_outcome cycled };
+
+    fn from(cycled: Cycled) -> CycleOutcome {
+        let charge = match cycled.answer {
+            Err(refused) => Err(refused.refusal),
+            Ok(answer) => Ok(answer.decode.charge),
+        };
+        CycleOutcome {
+            state: cycled.state,
+            charge,
+        }
+    }
+}
+
+// How far a run has come: the sum of the charges, the cycles begun, where the next line begins, and the refusal that ended it.
 #[derive(Clone, Copy)]
 pub struct Progress {
     pub state: State,
     pub charged: u64,
     pub begun: u64,
     pub at: usize,
-    pub number: u32,
+    pub refusal: Option<Refusal>,
+}
+
+// A benchmark's step: the one cycle of a line of so many words.
+pub trait Benchmark<T, const WIDTH: usize> {
+    ghost given: { Self → List T → State → List ℕ → Given };
+
+    fn step(&self, state: State, line: &[T; WIDTH], store: &mut [u32]) -> CycleOutcome
+        ensures outcome { let g = given self.now line.now state store.old in result ≡ cycle_outcome (cycle_of g.input g.state store.old) }
+        ensures store { let g = given self.now line.now state store.old in store.new ≡ cycle_store g.input g.state store.old };
 }
 
 // The cycles to run: none where there is no whole line.
-pub fn cycles_of(width: usize, words: usize, cycles: u64) -> u64
+fn cycles_of(width: usize, words: usize, cycles: u64) -> u64
     ensures { result ≡ cycles_of width words cycles }
 {
     if width <= words { cycles } else { 0 }
 }
 
-// The sum of the charges with one more.
-pub fn charged_after(charged: u64, charge: u32) -> u64
-    ensures { result ≡ (charged + charge) % 2 ^ 64 }
+fn start_progress(ergs: u32) -> Progress
+    ensures { result ≡ start_progress ergs }
 {
-    std::num::wrapping_add_u64(charged, charge as u64)
+    Progress {
+        state: stepper::start_state(ergs, 0),
+        charged: 0,
+        begun: 0,
+        at: 0,
+        refusal: None,
+    }
 }
 
-fn wide(n: u32) -> u64
-    ensures { result ≡ n }
+fn next_line(at: usize, width: usize, words: usize) -> usize
+    requires { at + width ≤ words }
+    ensures { result ≡ next_line width words at }
 {
-    n as u64
+    let after = at + width;
+    if words - width < after { 0 } else { after }
 }
 
-fn wide_pc(n: u16) -> u64
-    ensures { result ≡ n }
+fn line_at<T, const WIDTH: usize>(lines: &[T], at: usize) -> &[T; WIDTH]
+    requires { at + WIDTH ≤ length lines.now }
+    ensures { result.now ≡ line_at WIDTH lines.now at }
 {
-    n as u64
+    <&[T; WIDTH]>::try_from(&lines[at..at + WIDTH]).unwrap()
 }
 
-fn bit(b: bool, n: u64) -> u64
-    ensures { (result ≡ (if b then n else 0)) × (result ≤ n) }
+fn charged_after(charged: u64, charge: Result<u32, Refusal>) -> u64
+    ensures { result ≡ charged_after charged charge }
 {
-    if b { n } else { 0 }
+    match charge {
+        Ok(charge) => charged.wrapping_add(u64::from(charge)),
+        Err(_) => charged,
+    }
 }
 
 fn flags_number(flags: Flags) -> u64
     ensures { result ≡ flags_number flags }
 {
-    let less = bit(flags.overflow_or_less_than_flag, 1);
-    let equal = bit(flags.equality_flag, 2);
-    let greater = bit(flags.greater_than_flag, 4);
-    less + equal + greater
+    u64::from(flags.overflow_or_less_than_flag)
+        + 2 * u64::from(flags.equality_flag)
+        + 4 * u64::from(flags.greater_than_flag)
 }
 
-// A loop that counts each cycle it begins needs no test; the one that was refused comes off here.
-fn completed_of(begun: u64, number: u32) -> u64
-    ensures { result ≡ begun - (if nat_eq number 0 then 0 else 1) }
+// 0 where there is none.
+fn refused_number(refusal: Option<Refusal>) -> u32
+    ensures { result ≡ refused_number refusal }
 {
-    if (number == 0) | (begun == 0) {
-        begun
-    } else {
-        begun - 1
-    }
+    refusal.map_or(0, Refusal::number)
 }
 
-// Writes what is told of a run at its end.
+// Writes what is told of a run at its end. The caller in C reads a refusal as its number, 0 for none, and the flags as one number.
+// The loop counts each cycle that it begins; the one that was refused comes off here.
 #[tactic(auto, unfolding(crate::specs::Bench::end_of))]
-pub fn tell(end: &mut [u64; 8], p: Progress)
-    ensures { end.new ≡ end_of p }
+fn tell(end: &mut [u64; 8], run: Progress)
+    ensures { end.new ≡ end_of run }
 {
-    let flags = p.state.flags;
     *end = [
-        wide(p.number),
-        completed_of(p.begun, p.number),
-        wide(p.state.current.ergs_remaining),
-        wide(p.state.depth),
-        wide_pc(p.state.current.pc),
-        flags_number(flags),
-        wide(p.state.timestamp),
-        p.charged,
+        u64::from(refused_number(run.refusal)),
+        run.begun.saturating_sub(u64::from(run.refusal.is_some())),
+        u64::from(run.state.current.ergs_remaining),
+        u64::from(run.state.depth),
+        u64::from(run.state.current.pc),
+        flags_number(run.state.flags),
+        u64::from(run.state.timestamp),
+        run.charged,
     ];
+}
+
+// Runs the lines in turn, one cycle each, and from the front again after the last whole one. A refusal ends the run.
+pub fn run<T, B: Benchmark<T, WIDTH>, const WIDTH: usize>(
+    bench: &B,
+    lines: &[T],
+    ergs: u32,
+    cycles: u64,
+    store: &mut [u32],
+    end: &mut [u64; 8],
+)
+    ensures store { store.new ≡ (run_of (B.given bench.now) WIDTH lines.now cycles ergs store.old).store }
+    ensures end { end.new ≡ end_of (run_of (B.given bench.now) WIDTH lines.now cycles ergs store.old).progress }
+{
+    let count = cycles_of(WIDTH, lines.len(), cycles);
+    let mut run = start_progress(ergs);
+    while run.refusal.is_none() & (run.begun < count) {
+        let line = line_at(lines, run.at);
+        run.at = next_line(run.at, WIDTH, lines.len());
+        let ran = bench.step(run.state, line, store);
+        run.state = ran.state;
+        run.begun += 1;
+        run.charged = charged_after(run.charged, ran.charge);
+        run.refusal = ran.charge.err();
+    }
+    tell(end, run);
 }

@@ -1,65 +1,88 @@
 // A line of 58 words: the plain record, the panic record and the nop record, 19 words each, and the want.
-ghost use Rattle.std.specs.Prelude.{◌≡◌, ◌+◌, ◌%◌, ◌^◌, ◌<◌, ◌≤◌, length, slice_index};
-ghost use Rattle.bench_lines.specs.Line.{is_set, record_from, line_records, want_of};
+ghost use Rattle.std.specs.Prelude.{◌≡◌, ℕ, ◌+◌, ◌%◌, ◌^◌, ◌<◌, ◌≤◌, length, slice_index};
+ghost use Rattle.bench_lines.specs.Line.{record_width, is_set, record_from, line_records, want_of, word_at};
 
 use rules::{Record, Records};
+use u256::U256;
+
+// The words of a record.
+const RECORD: usize = 19;
 
 // The words of a line.
-pub const LINE: usize = 58;
+pub const LINE: usize = 3 * RECORD + 1;
 
-fn byte_at(line: &[u64], k: usize) -> u8
-    requires { k < length line.now }
-    ensures { result ≡ slice_index line.now k % 2 ^ 8 }
-{
-    (line[k] % 0x100) as u8
+// A field of a record: of a number the lowest bits of its word; yes is any word but 0.
+trait Field {
+    ghost of_word: { ℕ → Self };
+
+    fn of_word(word: u64) -> Self
+        ensures { result ≡ of_word word };
 }
 
-fn half_at(line: &[u64], k: usize) -> u16
-    requires { k < length line.now }
-    ensures { result ≡ slice_index line.now k % 2 ^ 16 }
-{
-    (line[k] % 0x1_0000) as u16
+impl Field for u8 {
+    ghost of_word = { λ word. word % 2 ^ 8 };
+
+    fn of_word(word: u64) -> u8 {
+        (word % 0x100) as u8
+    }
 }
 
-fn number_at(line: &[u64], k: usize) -> u32
-    requires { k < length line.now }
-    ensures { result ≡ slice_index line.now k % 2 ^ 32 }
-{
-    (line[k] % 0x1_0000_0000) as u32
+impl Field for u16 {
+    ghost of_word = { λ word. word % 2 ^ 16 };
+
+    fn of_word(word: u64) -> u16 {
+        (word % 0x1_0000) as u16
+    }
 }
 
-fn is_set(line: &[u64], k: usize) -> bool
+impl Field for u32 {
+    ghost of_word = { λ word. word % 2 ^ 32 };
+
+    fn of_word(word: u64) -> u32 {
+        (word % 0x1_0000_0000) as u32
+    }
+}
+
+impl Field for bool {
+    ghost of_word = { is_set };
+
+    fn of_word(word: u64) -> bool {
+        word != 0
+    }
+}
+
+fn field_at<F: Field>(line: &[u64], k: usize) -> F
     requires { k < length line.now }
-    ensures { result ≡ is_set (slice_index line.now k) }
+    ensures { result ≡ F.of_word (slice_index line.now k) }
 {
-    line[k] != 0
+    F::of_word(line[k])
 }
 
 #[tactic(auto, unfolding(crate::specs::Line::record_from))]
 fn record_from(line: &[u64], from: usize) -> Record
-    requires { (from ≤ 38) × (from + 19 ≤ length line.now) }
+    requires { from + record_width ≤ length line.now }
     ensures { result ≡ record_from line.now from }
 {
     Record {
-        operation: byte_at(line, from),
-        return_kind: byte_at(line, from + 1),
-        condition: byte_at(line, from + 2),
-        source_kind: byte_at(line, from + 3),
-        destination_kind: byte_at(line, from + 4),
-        src0: byte_at(line, from + 5),
-        src1: byte_at(line, from + 6),
-        dst0: byte_at(line, from + 7),
-        imm_0: half_at(line, from + 8),
-        imm_1: half_at(line, from + 9),
-        price: number_at(line, from + 10),
-        explicit_panic: is_set(line, from + 11),
-        kernel_only: is_set(line, from + 12),
-        allowed_when_static: is_set(line, from + 13),
-        swap: is_set(line, from + 14),
-        set_flags: is_set(line, from + 15),
-        to_label: is_set(line, from + 16),
-        src0_may_be_pointer: is_set(line, from + 17),
-        src1_may_be_pointer: is_set(line, from + 18),
+        operation: field_at(line, from),
+        return_kind: field_at(line, from + 1),
+        condition: field_at(line, from + 2),
+        source_kind: field_at(line, from + 3),
+        destination_kind: field_at(line, from + 4),
+        src0: field_at(line, from + 5),
+        src1: field_at(line, from + 6),
+        dst0: field_at(line, from + 7),
+        imm_0: field_at(line, from + 8),
+        imm_1: field_at(line, from + 9),
+        price: field_at(line, from + 10),
+        explicit_panic: field_at(line, from + 11),
+        kernel_only: field_at(line, from + 12),
+        allowed_when_static: field_at(line, from + 13),
+        swap: field_at(line, from + 14),
+        set_flags: field_at(line, from + 15),
+        to_label: field_at(line, from + 16),
+        src0_may_be_pointer: field_at(line, from + 17),
+        src1_may_be_pointer: field_at(line, from + 18),
     }
 }
 
@@ -76,10 +99,11 @@ pub fn records_of(line: &[u64]) -> Records
             nop: none,
         };
     }
-    let plain = record_from(line, 0);
-    let panic = record_from(line, 19);
-    let nop = record_from(line, 38);
-    Records { plain, panic, nop }
+    Records {
+        plain: record_from(line, 0),
+        panic: record_from(line, RECORD),
+        nop: record_from(line, 2 * RECORD),
+    }
 }
 
 pub fn want_of(line: &[u64]) -> u32
@@ -88,6 +112,14 @@ pub fn want_of(line: &[u64]) -> u32
     if line.len() < LINE {
         0
     } else {
-        number_at(line, 57)
+        field_at(line, LINE - 1)
     }
+}
+
+// Four words, the lowest first.
+pub fn word_of(words: &[u64; 4]) -> U256
+    ensures { result ≡ word_at words.now 0 }
+{
+    let [w0, w1, w2, w3] = *words;
+    U256 { w0, w1, w2, w3 }
 }

@@ -1,5 +1,6 @@
 -- The memory that answers the code query and the source location.
-use Rattle.std.specs.Prelude.{ℕ, ◌*◌, ◌/◌, ◌%◌, cond, List, leb, length}
+use Rattle.std.specs.Prelude.{ℕ, ◌*◌, ◌/◌, ◌%◌, cond, List, Result, Ok, Err, leb, length}
+use Rattle.refusal.specs.declared.Refusal.{Refusal}
 use Rattle.u256.specs.declared.U256.{U256}
 use Rattle.registers.specs.Registers.{empty_word}
 use Rattle.rules.specs.declared.Location.{Location}
@@ -16,6 +17,6 @@ word_read words Location.None = empty_word
 word_read words (Location.At kind page index) = word_indexed words index
 
 -- the source location that operands tells
-abbrev pub source_told : OperandsAnswer → Location
-source_told (OperandsAnswer.Done source destination) = source
-source_told (OperandsAnswer.Refused n) = Location.None
+abbrev pub source_told : Result OperandsAnswer Refusal → Location
+source_told (Ok answer) = answer.source
+source_told (Err refusal) = Location.None
