@@ -132,7 +132,6 @@ fn tell(end: &mut [u64; 8], run: Progress)
 }
 
 // Runs the lines in turn, one cycle each, and from the front again after the last whole one. A refusal ends the run.
-// A loop that counts: over chunks by `cycle()` the staged form took 477 instructions where this took 461, and a `for` that breaks took a tenth more of the listing's time (docs/SPEED.md).
 pub fn run<T, B: Benchmark<T, WIDTH>, const WIDTH: usize>(
     bench: &B,
     lines: &[T],
