@@ -48,7 +48,7 @@ pub struct Record {
 }
 
 // The three that come together: the instruction as it stands, masked into panic, and masked into nop.
-#[derive(Clone, Copy)]
+#[derive(Clone, Copy, Default)]
 pub struct Records {
     pub plain: Record,
     pub panic: Record,
