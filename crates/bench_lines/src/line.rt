@@ -1,6 +1,6 @@
 // A line of 58 words: the plain record, the panic record and the nop record, 19 words each, and the want.
-ghost use Rattle.std.specs.Prelude.{◌≡◌, ℕ, ◌+◌, ◌%◌, ◌^◌, ◌<◌, ◌≤◌, length, slice_index};
-ghost use Rattle.bench_lines.specs.Line.{record_width, is_set, record_from, line_records, want_of, word_at};
+ghost use Rattle.std.specs.Prelude.{◌≡◌, ℕ, ◌+◌, ◌%◌, ◌^◌, ◌<◌, length, take, drop, MatchOption};
+ghost use Rattle.bench_lines.specs.Line.{record_width, line_width, is_set, record_from, line_records, want_of, word_at};
 
 use rules::{Record, Records};
 use u256::U256;
@@ -11,7 +11,7 @@ const RECORD: usize = 19;
 // The words of a line.
 pub const LINE: usize = 3 * RECORD + 1;
 
-// A field of a record: of a number the lowest bits of its word; yes is any word but 0.
+// A field of a record: of a number the lowest bits of its word, by a cast, since no `From` takes them; yes is any word but 0.
 trait Field {
     ghost of_word: { ℕ → Self };
 
@@ -51,39 +51,70 @@ impl Field for bool {
     }
 }
 
-fn field_at<F: Field>(line: &[u64], k: usize) -> F
-    requires { k < length line.now }
-    ensures { result ≡ F.of_word (slice_index line.now k) }
+#[tactic(auto, unfolding(crate::specs::Line::record_from))]
+fn record_from(words: &[u64; RECORD]) -> Record
+    ensures { result ≡ record_from words.now 0 }
 {
-    F::of_word(line[k])
+    let [
+        operation,
+        return_kind,
+        condition,
+        source_kind,
+        destination_kind,
+        src0,
+        src1,
+        dst0,
+        imm_0,
+        imm_1,
+        price,
+        explicit_panic,
+        kernel_only,
+        allowed_when_static,
+        swap,
+        set_flags,
+        to_label,
+        src0_may_be_pointer,
+        src1_may_be_pointer,
+    ] = *words;
+    Record {
+        operation: Field::of_word(operation),
+        return_kind: Field::of_word(return_kind),
+        condition: Field::of_word(condition),
+        source_kind: Field::of_word(source_kind),
+        destination_kind: Field::of_word(destination_kind),
+        src0: Field::of_word(src0),
+        src1: Field::of_word(src1),
+        dst0: Field::of_word(dst0),
+        imm_0: Field::of_word(imm_0),
+        imm_1: Field::of_word(imm_1),
+        price: Field::of_word(price),
+        explicit_panic: Field::of_word(explicit_panic),
+        kernel_only: Field::of_word(kernel_only),
+        allowed_when_static: Field::of_word(allowed_when_static),
+        swap: Field::of_word(swap),
+        set_flags: Field::of_word(set_flags),
+        to_label: Field::of_word(to_label),
+        src0_may_be_pointer: Field::of_word(src0_may_be_pointer),
+        src1_may_be_pointer: Field::of_word(src1_may_be_pointer),
+    }
 }
 
-#[tactic(auto, unfolding(crate::specs::Line::record_from))]
-fn record_from(line: &[u64], from: usize) -> Record
-    requires { from + record_width ≤ length line.now }
-    ensures { result ≡ record_from line.now from }
+fn next_record(words: &[u64]) -> Option<(Record, &[u64])>
+    ensures { MatchOption result (length words.now < record_width) (λ p. (p.0 ≡ record_from (take record_width words.now) 0) × (p.1.now ≡ drop record_width words.now) × (length p.1.now + record_width ≡ length words.now)) }
 {
-    Record {
-        operation: field_at(line, from),
-        return_kind: field_at(line, from + 1),
-        condition: field_at(line, from + 2),
-        source_kind: field_at(line, from + 3),
-        destination_kind: field_at(line, from + 4),
-        src0: field_at(line, from + 5),
-        src1: field_at(line, from + 6),
-        dst0: field_at(line, from + 7),
-        imm_0: field_at(line, from + 8),
-        imm_1: field_at(line, from + 9),
-        price: field_at(line, from + 10),
-        explicit_panic: field_at(line, from + 11),
-        kernel_only: field_at(line, from + 12),
-        allowed_when_static: field_at(line, from + 13),
-        swap: field_at(line, from + 14),
-        set_flags: field_at(line, from + 15),
-        to_label: field_at(line, from + 16),
-        src0_may_be_pointer: field_at(line, from + 17),
-        src1_may_be_pointer: field_at(line, from + 18),
-    }
+    let (words, rest) = words.split_first_chunk::<RECORD>()?;
+    Some((record_from(words), rest))
+}
+
+// The want follows the records; a line without it is not whole.
+fn whole_records(line: &[u64]) -> Option<Records>
+    ensures { MatchOption result (length line.now < line_width) (λ records. records ≡ line_records line.now) }
+{
+    let (plain, rest) = next_record(line)?;
+    let (panic, rest) = next_record(rest)?;
+    let (nop, rest) = next_record(rest)?;
+    rest.first()?;
+    Some(Records { plain, panic, nop })
 }
 
 // A line that is lent with a length known to the compiler is read with no test.
@@ -91,29 +122,13 @@ fn record_from(line: &[u64], from: usize) -> Record
 pub fn records_of(line: &[u64]) -> Records
     ensures { result ≡ line_records line.now }
 {
-    if line.len() < LINE {
-        let none = stepper::instruction(0, 0, 0, 0, 0, 0, 0, 0, 0, 0, false);
-        return Records {
-            plain: none,
-            panic: none,
-            nop: none,
-        };
-    }
-    Records {
-        plain: record_from(line, 0),
-        panic: record_from(line, RECORD),
-        nop: record_from(line, 2 * RECORD),
-    }
+    whole_records(line).unwrap_or_default()
 }
 
 pub fn want_of(line: &[u64]) -> u32
     ensures { result ≡ want_of line.now }
 {
-    if line.len() < LINE {
-        0
-    } else {
-        field_at(line, LINE - 1)
-    }
+    line.get(LINE - 1).map_or(0, |word| Field::of_word(*word))
 }
 
 // Four words, the lowest first.
