@@ -4,7 +4,7 @@
 ghost use Rattle.std.specs.Prelude.{◌≡◌, ℕ, ◌+◌, ◌≤◌, List, length};
 ghost use Rattle.cycle.specs.declared.State.{State};
 ghost use Rattle.stepper.specs.Cycle.{cycle_of, cycle_store};
-ghost use Rattle.bench_lines.specs.Bench.{Given, start_progress, cycles_of, next_line, line_at, cycle_outcome, charged_after, refused_number, flags_number, end_of, run_of};
+ghost use Rattle.bench_lines.specs.Bench.{Given, start_progress, cycles_of, next_line, line_at, cycle_outcome, refused_number, flags_number, end_of, run_of};
 
 mod line;
 
@@ -74,6 +74,7 @@ fn start_progress(ergs: u32) -> Progress
     }
 }
 
+// By an index: std's chunks ask that the width is not 0, and `as_chunks` that a line's size in memory is below 2^63, which the proof does not have of any T and WIDTH, and `run` may not ask.
 fn next_line(at: usize, width: usize, words: usize) -> usize
     requires { at + width ≤ words }
     ensures { result ≡ next_line width words at }
@@ -89,15 +90,7 @@ fn line_at<T, const WIDTH: usize>(lines: &[T], at: usize) -> &[T; WIDTH]
     <&[T; WIDTH]>::try_from(&lines[at..at + WIDTH]).unwrap()
 }
 
-fn charged_after(charged: u64, charge: Result<u32, Refusal>) -> u64
-    ensures { result ≡ charged_after charged charge }
-{
-    match charge {
-        Ok(charge) => charged.wrapping_add(u64::from(charge)),
-        Err(_) => charged,
-    }
-}
-
+// One number, since the caller is C.
 fn flags_number(flags: Flags) -> u64
     ensures { result ≡ flags_number flags }
 {
@@ -106,14 +99,14 @@ fn flags_number(flags: Flags) -> u64
         + 4 * u64::from(flags.greater_than_flag)
 }
 
-// 0 where there is none.
+// A number, 0 where there is no refusal, since the caller is C.
 fn refused_number(refusal: Option<Refusal>) -> u32
     ensures { result ≡ refused_number refusal }
 {
     refusal.map_or(0, Refusal::number)
 }
 
-// Writes what is told of a run at its end. The caller in C reads a refusal as its number, 0 for none, and the flags as one number.
+// Writes what is told of a run at its end.
 // The loop counts each cycle that it begins; the one that was refused comes off here.
 #[tactic(auto, unfolding(crate::specs::Bench::end_of))]
 fn tell(end: &mut [u64; 8], run: Progress)
@@ -132,6 +125,7 @@ fn tell(end: &mut [u64; 8], run: Progress)
 }
 
 // Runs the lines in turn, one cycle each, and from the front again after the last whole one. A refusal ends the run.
+// The parameters from `lines` on are those that C gives each benchmark.
 pub fn run<T, B: Benchmark<T, WIDTH>, const WIDTH: usize>(
     bench: &B,
     lines: &[T],
@@ -145,14 +139,19 @@ pub fn run<T, B: Benchmark<T, WIDTH>, const WIDTH: usize>(
 {
     let count = cycles_of(WIDTH, lines.len(), cycles);
     let mut run = start_progress(ergs);
-    while run.refusal.is_none() & (run.begun < count) {
+    for _ in 0..count {
         let line = line_at(lines, run.at);
         run.at = next_line(run.at, WIDTH, lines.len());
         let ran = bench.step(run.state, line, store);
         run.state = ran.state;
         run.begun += 1;
-        run.charged = charged_after(run.charged, ran.charge);
-        run.refusal = ran.charge.err();
+        match ran.charge {
+            Ok(charge) => run.charged = run.charged.wrapping_add(u64::from(charge)),
+            Err(refusal) => {
+                run.refusal = Some(refusal);
+                break;
+            }
+        }
     }
     tell(end, run);
 }
