@@ -42,6 +42,7 @@ impl Benchmark<u32, WIDTH> for Listing {
     }
 }
 
+// The caller is C, which gives each parameter by itself.
 #[unsafe(no_mangle)]
 pub extern "C" fn bench_listing(
     lines: &[u32],

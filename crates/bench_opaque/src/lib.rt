@@ -35,6 +35,7 @@ impl Benchmark<u64, LINE> for Opaque {
     }
 }
 
+// The caller is C, which gives each parameter by itself.
 #[unsafe(no_mangle)]
 pub extern "C" fn bench_opaque(
     lines: &[u64],

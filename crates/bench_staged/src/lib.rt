@@ -13,6 +13,7 @@ use cycle::State;
 use refusal::Refusal;
 use rules::{Records, Settings};
 
+// Not by stepper's `refused_at`: each call would name a stage, which the outcome leaves out.
 fn refused(state: State, refusal: Refusal) -> CycleOutcome
     ensures { result ≡ record { state = state; charge = Err refusal } }
 {
@@ -22,7 +23,8 @@ fn refused(state: State, refusal: Refusal) -> CycleOutcome
     }
 }
 
-// The four stages, each called once here, so that the compiler inlines them.
+// The four stages, as in `stepper::cycle`: called here, each is inlined, and the source is answered between two of them.
+// A refusal answers the state with it, so there is no `?`.
 #[tactic(auto, unfolding(crate::specs::Staged::staged_input, stepper::specs::Cycle::cycle_of, stepper::specs::Cycle::cycle_store))]
 fn cycle_by_stages(
     state: State,
@@ -79,6 +81,7 @@ impl Benchmark<u64, LINE> for Served<'_> {
     }
 }
 
+// The caller is C, which gives each parameter by itself.
 #[unsafe(no_mangle)]
 pub extern "C" fn bench_staged(
     lines: &[u64],

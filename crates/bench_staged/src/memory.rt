@@ -5,6 +5,7 @@ ghost use Rattle.bench_staged.specs.Memory.{word_indexed, word_read};
 use rules::Location;
 use u256::U256;
 
+// The index by a cast, since `From` makes no `usize` of a `u32`.
 fn word_indexed(words: &[u64], index: u32) -> U256
     ensures { result ≡ word_indexed words.now index }
 {
