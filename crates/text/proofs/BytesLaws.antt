@@ -1,29 +1,30 @@
 -- Bytes compared, and written on a buffer. Assumes nothing.
 use Prim.Native.Nat.{ℕ, suc, ◌+◌, ◌≤◌, ◌-◌, min}
 use mathlib.Core.Bool.{Bool, true, false, ◌&&◌}
+use mathlib.Core.Logic.{◌⊎◌, inl, inr}
 use mathlib.Core.Path.{◌≡◌, refl, sym, ap, ◌∙◌}
 use mathlib.Core.List.{List, [], ◌∷◌, ◌++◌}
 use native.Mathlib.Nat.{add-zero, add-suc, suc-add, zero-add, min-eq_left}
 use native.Mathlib.Decide.{dec_le}
 use native.Mathlib.Omega.{arith}
-use lib.Dec.{eqb}
-use lib.ListN.{length, take, drop, set, length-append}
+use lib.Dec.{ltb}
+use lib.ListN.{length, take, drop, set, length-append, drop_of_length-le}
 use lib.Seq.{sets, sets-eq, length-sets, set_out, take_at, drop_at}
+use borrow.Author.Tests.{ltb-false}
 use borrow.Rule.Slice.PartMut.{put_mid}
-use Rattle.std.proofs.lemmas.List.{take-append-drop, length-take-le, append_assoc, drop-drop, length-drop}
+use Rattle.std.proofs.lemmas.Bool.{and_cases}
+use Rattle.std.proofs.lemmas.List.{take-append-drop, length-take-le, append_assoc, drop-drop}
+use Rattle.std.proofs.lemmas.Slice.Eq.{bytes_eq-Decides}
 use Rattle.text.specs.declared.Writer.{Writer}
 use Rattle.text.specs.Bytes.{same_bytes, Wrote}
 
 -- bytes of other lengths are not the same
 pub same_length : (a b : List ℕ) → (length a ≡ length b → ⊥) → false ≡ same_bytes a b
-same_length [] [] h = absurd (h refl)
-same_length [] (y ∷ ys) h = refl
-same_length (x ∷ xs) [] h = refl
-same_length (x ∷ xs) (y ∷ ys) h = other (eqb x y) (same_length xs ys (λ e. h (ap suc e)))
+same_length a b h = go (same_bytes a b) (bytes_eq-Decides a b).0
   where
-    other : (t : Bool) {s : Bool} → false ≡ s → false ≡ (t && s)
-    other true e = e
-    other false e = refl
+    go : (t : Bool) → (t ≡ true → a ≡ b) → false ≡ t
+    go true same = absurd (h (ap length (same refl)))
+    go false same = refl
 
 -- past its end the buffer is not written
 pub sets_out : (buffer : List ℕ) (at : ℕ) (bytes : List ℕ) → length buffer ≤ at → sets buffer at bytes ≡ buffer
@@ -43,27 +44,42 @@ sets_append : (buffer : List ℕ) (at : ℕ) (a b : List ℕ) → sets buffer at
 sets_append buffer at [] b = rw add-zero
 sets_append buffer at (x ∷ xs) b = rw (add-suc, ← suc-add) (sets_append (set buffer at x) (suc at) xs b)
 
--- text that fits, before text for which there is no room
-sets_fit : (buffer : List ℕ) (at : ℕ) (a b : List ℕ) → at + length a ≤ length buffer → min (length b) (length buffer - (at + length a)) ≡ 0
-    → sets buffer at (a ++ b) ≡ put_mid at (length a) buffer a
-sets_fit buffer at a b h m =
-    sets_append buffer at a b
-    ∙ no_room b (omega (arith, length-sets buffer at a))
-    ∙ sets-eq a buffer at h
-    ∙ rw (append_assoc, drop-drop (length a) at buffer)
+-- a text of which i bytes are written: the rest, written from here on, ends it
+pub record Putting (old : Writer) (bytes : List ℕ) (now : Writer) (i : ℕ) : Type 0 where
+  pub same : now.buffer.ghost_name ≡ old.buffer.ghost_name
+  pub size : length now.buffer.now ≡ length old.buffer.now
+  pub upto : i ≤ length bytes
+  pub next : now.position ≡ min (old.position + i) (length old.buffer.now)
+  pub rest : sets old.buffer.now old.position bytes ≡ sets now.buffer.now now.position (drop i bytes)
+
+-- it ends with the bytes, or at the buffer's end
+pub putting_done : (old : Writer) (bytes : List ℕ) (now : Writer) (i : ℕ) → Putting old bytes now i
+    → (ltb i (length bytes) && ltb now.position (length now.buffer.now)) ≡ false → Wrote old bytes now
+putting_done old bytes now i p stop = go (and_cases (ltb i (length bytes)) (ltb now.position (length now.buffer.now)) stop)
   where
-    no_room : (b : List ℕ) → min (length b) (length (sets buffer at a) - (at + length a)) ≡ 0 → sets (sets buffer at a) (at + length a) b ≡ sets buffer at a
-    no_room [] e = refl
-    no_room (x ∷ xs) e = sets_out (sets buffer at a) (at + length a) (x ∷ xs) (omega arith)
+    go : (ltb i (length bytes) ≡ false) ⊎ (ltb now.position (length now.buffer.now) ≡ false) → Wrote old bytes now
+    go (inl e) =
+        let all : length bytes ≤ i = ltb-false i (length bytes) e in
+        record { bytes = sym (rw (drop_of_length-le bytes all) at p.rest); position = omega (arith, p.upto, p.next); same = p.same }
+    go (inr e) =
+        let full : length now.buffer.now ≤ now.position = ltb-false now.position (length now.buffer.now) e in
+        record {
+          bytes = sym (p.rest ∙ sets_out now.buffer.now now.position (drop i bytes) full);
+          position = omega (arith, p.upto, p.next, p.size);
+          same = p.same;
+        }
 
 -- a text, of which as much is copied as there is room for
 pub sets_part : (buffer : List ℕ) (at : ℕ) (bytes : List ℕ) {start size : ℕ} → start ≡ min at (length buffer) → size ≡ min (length bytes) (length buffer - start)
-    → {part : List ℕ} → part ≡ take size bytes → {k : ℕ} → k ≡ size → put_mid start k buffer part ≡ sets buffer at bytes
-sets_part buffer at bytes {start} {size} e f {part} g {k} h =
+    → {part : List ℕ} → part ≡ take size bytes → sets buffer at bytes ≡ sets (put_mid start (start + size - start) buffer part) (start + size) (drop size bytes)
+sets_part buffer at bytes {start} {size} e f {part} g =
+    let k : start + size - start ≡ size = omega arith in
     let long : length (take size bytes) ≡ size = length-take-le size bytes (omega arith) in
-    let fit : sets buffer start (take size bytes ++ drop size bytes) ≡ put_mid start (length (take size bytes)) buffer (take size bytes) =
-    sets_fit buffer start (take size bytes) (drop size bytes) (omega arith) (omega (arith, length-drop size bytes)) in
-    rw (g, h) (sym (rw long at fit) ∙ rw (take-append-drop, e) (sets_min buffer at bytes))
+    let parts : sets buffer start (take size bytes ++ drop size bytes) ≡ sets (sets buffer start (take size bytes)) (start + size) (drop size bytes) =
+    sets_append buffer start (take size bytes) (drop size bytes) ∙ rw long in
+    let copy : sets buffer start (take size bytes) ≡ put_mid start (start + size - start) buffer part =
+    sets-eq (take size bytes) buffer start (omega arith) ∙ rw (g, k, long, append_assoc, drop-drop size start buffer) in
+    sym (rw e (sets_min buffer at bytes)) ∙ rw take-append-drop at parts ∙ ap (λ (l : List ℕ). sets l (start + size) (drop size bytes)) copy
 
 -- what is written after what was written is written with it
 pub join : (old : Writer) (a b : List ℕ) {between new : Writer} → Wrote old a between → Wrote between b new → Wrote old (a ++ b) new

@@ -13,6 +13,7 @@ use borrow.Author.Tests.{lt-ltb, le-ltb}
 use Rattle.std.specs.Prelude.{Option, Some, None}
 use Rattle.std.specs.Fmt.{decimal}
 use Rattle.std.proofs.Common.{rules}
+use Rattle.std.proofs.lemmas.Option.{none-some}
 use Rattle.std.proofs.lemmas.Str.Parse.{IsNumeralModel, numerals_by_fold}
 use Rattle.std.proofs.lemmas.Fmt.{AppendsLastDigit, decimal_from_appends, length-decimal-le, decimal_nonempty, digits_value-decimal, digits_decimal}
 use Rattle.text.specs.Number.{is_digit, all_digits, is_some, decimal_after, number_of, digits_in, digits_of}
@@ -112,5 +113,5 @@ reads_back n h =
 -- a number has a byte at least
 pub number_some : (field : List ℕ) (n : ℕ) → number_of field ≡ Some n → 1 ≤ length field
 unfolding number_of
-number_some [] n e = let z : ◌≡◌ {A = ℕ} 0 1 = cc in absurd (omega arith)
+number_some [] n e = absurd (none-some n e)
 number_some (b ∷ bs) n e = omega arith

@@ -1,31 +1,26 @@
 -- Parts between separators. Assumes nothing.
-use Rattle.std.proofs.Common.{◌≡◌, ℕ, suc, ◌+◌, ◌-◌, ◌≤◌, ◌<◌, min, Bool, true, false, cond, not, eqb, ltb, List, [], ◌∷◌, length, take, drop, Some, None, refl, ap, ◌∙◌, arith, drop-drop}
+use Rattle.std.proofs.Common.{◌≡◌, ℕ, suc, ◌+◌, ◌-◌, ◌≤◌, ◌<◌, min, Bool, true, false, cond, not, eqb, List, [], ◌∷◌, ◌++◌, length, get_or, take, drop, Option, Some, None, refl, sym, ap, ◌∙◌, arith, append_assoc, length-append}
+use mathlib.Core.Logic.{◌≢◌}
 use native.Mathlib.Decide.{dec_lt}
-use native.Mathlib.Nat.{min_comm}
-use borrow.Author.Tests.{lt-ltb, le-ltb}
-use Rattle.std.specs.Option.{unwrap_or}
-use Rattle.std.specs.List.{position_or_len, position}
-use Rattle.std.proofs.lemmas.List.{take_rest, drop_min}
-use Rattle.std.proofs.lemmas.List.Sums.{prefix_len-le-length}
-use Rattle.text.specs.Parts.{onto, cut, lines_of, fields_of}
+use lib.Seq.{take-suc, get_or-append_seam}
+use borrow.Author.Tests.{eqb-true}
+use Rattle.std.specs.Option.{MatchOption, unwrap_or}
+use Rattle.std.specs.Str.{bytes_eq}
+use Rattle.std.specs.List.{position_or_len, slice_split, IsFirstMatchOrLen}
+use Rattle.std.proofs.lemmas.List.{take_rest, drop_min, take_at, length-take-le}
+use Rattle.std.proofs.lemmas.List.Sums.{position_or_len_is}
+use Rattle.std.proofs.lemmas.List.Splits.{join_with_byte-slice_split}
+use Rattle.std.proofs.lemmas.Slice.Eq.{strip_suffix_is}
+use Rattle.std.proofs.lemmas.Bool.Decides.{Decides-eqb}
+use denote.Ref.{Bor}
+use Rattle.text.specs.Parts.{onto, lines_of, fields_of}
 
 -- where the first line ends: at its line end, or with the bytes
 abbrev pub line_end : List ℕ → ℕ
 line_end bytes = position_or_len (λ b. eqb b 10) bytes
 
--- what position finds, or else the length
-pub position_or : (test : ℕ → Bool) (bytes : List ℕ) → unwrap_or (position test bytes) (length bytes) ≡ position_or_len test bytes
-position_or test bytes = go (position_or_len test bytes) (prefix_len-le-length (λ b. not (test b)) bytes)
-  where
-    go : (n : ℕ) → n ≤ length bytes → unwrap_or (cond (ltb n (length bytes)) (Some n) None) (length bytes) ≡ n
-    go n h = within (dec_lt n (length bytes))
-      where
-        within : Dec (n < length bytes) → unwrap_or (cond (ltb n (length bytes)) (Some n) None) (length bytes) ≡ n
-        within (yes l) = rw (lt-ltb n (length bytes) l)
-        within (no l) = rw (le-ltb n (length bytes) (omega arith)) (omega arith)
-
 -- the first line, and those after its line end
-lines_cut : (bytes : List ℕ) → 0 < length bytes → lines_of bytes ≡ take (line_end bytes) bytes ∷ lines_of (drop (line_end bytes + 1) bytes)
+pub lines_cut : (bytes : List ℕ) → 0 < length bytes → lines_of bytes ≡ take (line_end bytes) bytes ∷ lines_of (drop (line_end bytes + 1) bytes)
 lines_cut [] h = absurd (omega arith)
 lines_cut (b ∷ bs) h = go (eqb b 10) bs (lines_cut bs)
   where
@@ -42,16 +37,48 @@ lines_cut (b ∷ bs) h = go (eqb b 10) bs (lines_cut bs)
     go false [] more = refl
     go false (c ∷ cs) more = shift (line_end (c ∷ cs)) (c ∷ cs) (more (omega arith))
 
--- the first line as next takes it off
-module _ (bytes : List ℕ) {end : ℕ} (e : end ≡ line_end bytes) where
-  pub line_within : end ≤ length bytes
-  line_within = omega (arith, prefix_len-le-length (λ b. not (eqb b 10)) bytes)
+-- the first line, from what stands up to and with the first line end, or is all
+module _ (bytes : List ℕ) (line : Bor (List ℕ)) (others : List ℕ) {i : ℕ} (parts : bytes ≡ line.now ++ others) (long : length line.now ≡ min (i + 1) (length bytes))
+    (first : IsFirstMatchOrLen (λ b. eqb b 10) bytes i) where
+  end_is : line_end bytes ≡ min i (length bytes)
+  end_is =
+      position_or_len_is (λ b. eqb b 10) bytes (min i (length bytes)) 0 (omega arith) (λ k l. first.0 k 0 (omega arith) (omega arith))
+      (λ l. let e : min i (length bytes) ≡ i = omega arith in rw e (first.1 (omega arith) 0))
 
-  pub lines_step : 0 < length bytes → {line others : List ℕ} → line ≡ take end bytes → others ≡ drop end bytes → {n : ℕ} → n ≡ min (length others) 1
-      → lines_of bytes ≡ line ∷ lines_of (take (length others - n) (drop n others))
-  lines_step h {line} {others} g i {n} m =
-      let past : drop n others ≡ drop (end + 1) bytes = rw (m, min_comm (length others) 1) (drop_min 1 others ∙ rw i (drop-drop 1 end bytes)) in
-      lines_cut bytes h ∙ rw (take_rest others n, past, g, e)
+  front : take (length line.now) bytes ≡ line.now
+  front = ap (take (length line.now)) parts ∙ take_at line.now others (length line.now) refl
+
+  ended : i < length bytes → line.now ≡ take i bytes ++ (10 ∷ [])
+  ended l =
+      let n : length line.now ≡ suc i = omega arith in
+      let ten : get_or bytes i 0 ≡ 10 = eqb-true (get_or bytes i 0) 10 (first.1 l 0) in
+      sym front ∙ rw (n, take-suc bytes i 0 l, ten)
+
+  module _ (cut : Option (Bor (List ℕ)))
+      (strip : MatchOption cut (bytes_eq (drop (length line.now - 1) line.now) (10 ∷ []) ≡ false)
+      (λ x. (bytes_eq (drop (length line.now - 1) line.now) (10 ∷ []) ≡ true) × (x.now ≡ take (length line.now - 1) line.now) × (length x.now + 1 ≡ length line.now))) where
+    stripped : (unwrap_or cut line).now ≡ take (line_end bytes) bytes
+    stripped = go cut (strip_suffix_is Decides-eqb line.now (10 ∷ []) cut strip) (dec_lt i (length bytes))
+      where
+        go : (cut : Option (Bor (List ℕ))) → MatchOption cut ((front : List ℕ) → line.now ≢ front ++ (10 ∷ [])) (λ x. line.now ≡ x.now ++ (10 ∷ []))
+            → Dec (i < length bytes) → (unwrap_or cut line).now ≡ take (line_end bytes) bytes
+        go None none (yes l) = absurd (none (take i bytes) (ended l))
+        go None none (no l) = let n : length line.now ≡ line_end bytes = omega (arith, end_is) in rw (← n) (sym front)
+        go (Some x) some (yes l) =
+            let n : line_end bytes ≡ i = omega (arith, end_is) in
+            let k : length x.now ≡ i = omega (arith, simp length-append at (ap length some)) in
+            rw n (sym (take_at x.now (10 ∷ []) i k) ∙ ap (take i) (sym some ∙ ended l) ∙ take_at (take i bytes) (10 ∷ []) i (omega (arith, length-take-le i bytes (omega arith))))
+        go (Some x) some (no l) =
+            let all : bytes ≡ x.now ++ (10 ∷ others) = parts ∙ ap (λ (front : List ℕ). front ++ others) some ∙ append_assoc x.now (10 ∷ []) others in
+            let ten : get_or bytes (length x.now) 0 ≡ 10 = rw all (get_or-append_seam x.now 10 others 0) in
+            let other : eqb (get_or bytes (length x.now) 0) 10 ≡ false = first.0 (length x.now) 0 (omega arith) (omega (arith, simp length-append at (ap length some))) in
+            let clash : eqb 10 10 ≡ false = rw ten at other in
+            absurd cc
+
+    pub lines_step : 0 < length bytes → lines_of bytes ≡ (unwrap_or cut line).now ∷ lines_of (take (length bytes - length line.now) (drop (length line.now) bytes))
+    lines_step h =
+        let n : length line.now ≡ min (line_end bytes + 1) (length bytes) = omega (arith, end_is) in
+        lines_cut bytes h ∙ rw (take_rest bytes (length line.now), n, drop_min (line_end bytes + 1) bytes, stripped)
 
 -- no more lines than bytes
 pub lines_length : (bytes : List ℕ) → length (lines_of bytes) ≤ length bytes
@@ -63,20 +90,11 @@ lines_length (b ∷ bs) = go (eqb b 10) (lines_of bs) (lines_length bs)
     go false [] h = omega arith
     go false (l ∷ ls) h = omega arith
 
--- the bytes of some parts, with one separator for each
-abbrev sizes : List (List ℕ) → ℕ
-sizes [] = 0
-sizes (p ∷ ps) = suc (length p) + sizes ps
-
-sizes_cut : (separator : ℕ) (bs : List ℕ) → sizes (cut separator ([] ∷ []) bs) ≡ suc (length bs)
-sizes_cut separator [] = refl
-sizes_cut separator (b ∷ bs) = go (eqb b separator) (cut separator ([] ∷ []) bs) (sizes_cut separator bs)
-  where
-    go : (t : Bool) (ps : List (List ℕ)) → sizes ps ≡ suc (length bs) → sizes (cond t ([] ∷ ps) (onto b ps)) ≡ suc (suc (length bs))
-    go true ps e = omega arith
-    go false [] e = absurd (omega arith)
-    go false (p ∷ ps) e = omega arith
+-- fields are std's parts
+pub fields_split : (line : List ℕ) → slice_split (λ b. eqb b 32) line ≡ fields_of line
+fields_split [] = refl
+fields_split (b ∷ bs) = ap (λ ps. cond (eqb b 32) ([] ∷ ps) (onto b ps)) (fields_split bs)
 
 -- a line of three fields has their bytes and two spaces
 pub fields_length : (line a b c : List ℕ) → fields_of line ≡ a ∷ b ∷ c ∷ [] → length line ≡ length a + length b + length c + 2
-fields_length line a b c e = omega (arith, ap sizes e, sizes_cut 32 line)
+fields_length line a b c e = omega (arith, simp length-append at (ap length (rw (fields_split line, e) at (join_with_byte-slice_split 32 line))))

@@ -1,11 +1,11 @@
 -- The parts of some bytes between separators: the lines of an input, the fields of a line. Document 01: "fields not parted by one space"; "The last line may lack
 -- its line end."
 use Rattle.std.specs.Prelude.{ℕ, cond, List, [], ◌∷◌, eqb}
+use Rattle.std.specs.List.{onto_first}
 
 -- a byte in front of the first part
 abbrev pub onto : ℕ → List (List ℕ) → List (List ℕ)
-onto b [] = (b ∷ []) ∷ []
-onto b (p ∷ ps) = (b ∷ p) ∷ ps
+onto = onto_first
 
 -- the parts of bytes; `end` is what no bytes give
 abbrev pub cut : ℕ → List (List ℕ) → List ℕ → List (List ℕ)

@@ -2,20 +2,9 @@
 #![tactic(auto)]
 
 ghost use Rattle.std.specs.Prelude.{◌≡◌, ◌<◌, ◌^◌, ◌==◌, [], ◌∷◌, length};
-ghost use Rattle.std.specs.List.{position_or_len};
 ghost use Rattle.text.specs.Number.{number_of, digits_of};
 
-// Where the first line ends: before its line end, or with the bytes.
-fn line_end(bytes: &[u8]) -> usize
-    ensures { result ≡ position_or_len (λ b. b == 10) bytes.now }
-{
-    bytes
-        .iter()
-        .position(|byte| *byte == b'\n')
-        .unwrap_or(bytes.len())
-}
-
-// The lines that are left of some bytes.
+// The lines that are left of some bytes. Not an adapter of std's by itself: it holds a closure, whose type no function could name to take the lines.
 #[derive(Clone, Copy)]
 pub struct Lines<'a> {
     rest: &'a [u8],
@@ -46,13 +35,9 @@ impl<'a> Iterator for Lines<'a> {
     ghost remaining = { item_count lines_left };
 
     fn next(&mut self) -> Option<&'a [u8]> {
-        let rest = self.rest;
-        if rest.is_empty() {
-            return None;
-        }
-        let (line, others) = rest.split_at(line_end(rest));
-        self.rest = &others[others.len().min(1)..];
-        Some(line)
+        let line = self.rest.split_inclusive(|byte| *byte == b'\n').next()?;
+        self.rest = &self.rest[line.len()..];
+        Some(line.strip_suffix(b"\n").unwrap_or(line))
     }
 }
 
@@ -75,7 +60,7 @@ pub fn read_number(field: &[u8]) -> Option<u32>
     Some(number)
 }
 
-// A buffer to write text on. The text is written from the position on, and what does not fit is left out.
+// A buffer to write text on. The text is written from the position on, and what does not fit is left out, where a writer of std's fails.
 #[derive(Drop)]
 pub struct Writer<'a> {
     pub buffer: &'a mut [u8],
@@ -88,12 +73,7 @@ impl<'a> Writer<'a> {
     pub fn put_byte(&mut self, byte: u8)
         ensures { Wrote self.old (byte ∷ []) self.new }
     {
-        if self.position < self.buffer.len() {
-            self.buffer[self.position] = byte;
-            self.position += 1;
-        } else {
-            self.position = self.buffer.len();
-        }
+        self.put_bytes(&[byte]);
     }
 
     pub fn put_bytes(&mut self, bytes: &[u8])
