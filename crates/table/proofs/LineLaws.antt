@@ -1,33 +1,30 @@
 -- Lines read. Assumes nothing.
 use Rattle.std.proofs.Common.{◌≡◌, ℕ, ◌≤◌, Bool, true, false, cond, ◌&&◌, leb, eqb, List, [], ◌∷◌, length, Option, Some, None, refl, sym, ap, ◌∙◌, arith}
 use native.Mathlib.Decide.{dec_le}
-use Rattle.std.specs.List.{slice_split, onto_first}
 use denote.Ref.{Bor}
+use denote.Param.Members.{Mut}
+use Rattle.std.specs.Fn.{CalledAt}
+use Rattle.std.specs.Slice.Iter as slice
 use Rattle.std.specs.Option.{is_some}
 use Rattle.std.specs.Bool.{then_some}
 use Rattle.std.specs.Iterator.{AlwaysYields}
 use Rattle.std.proofs.lemmas.Iterator.{YieldsList}
-use Rattle.text.specs.Parts.{onto, fields_of}
+use Rattle.std.proofs.lemmas.Iterator.Splits.{YieldsList-from_slice_split}
+use Rattle.std.proofs.lemmas.Option.{none-some}
+use Rattle.text.specs.Parts.{fields_of}
 use Rattle.text.specs.Number.{number_of}
 use Rattle.text.proofs.BytesLaws.{same_length}
-use Rattle.text.proofs.PartsLaws.{fields_length}
+use Rattle.text.proofs.PartsLaws.{fields_split, fields_length}
 use Rattle.text.proofs.NumberLaws.{number_some}
 use Rattle.table.specs.declared.Op.{Op}
 use Rattle.table.specs.declared.Line.{Line}
 use Rattle.table.specs.declared.Start.{Start}
 use Rattle.table.specs.Line.{name_of, op_of, run_line, line_fields, line_of, start_with, start_fields, start_of}
 
--- split parts a line into its fields
-pub fields_split : (line : List ℕ) → slice_split (λ b. eqb b 32) line ≡ fields_of line
-fields_split [] = refl
-fields_split (b ∷ bs) = go (slice_split (λ b. eqb b 32) bs) (fields_split bs)
-  where
-    front : (ps : List (List ℕ)) → onto_first b ps ≡ onto b ps
-    front [] = refl
-    front (p ∷ ps) = refl
-
-    go : (ps : List (List ℕ)) {qs : List (List ℕ)} → ps ≡ qs → cond (eqb b 32) ([] ∷ ps) (onto_first b ps) ≡ cond (eqb b 32) ([] ∷ qs) (onto b qs)
-    go ps e = rw (← e, front ps)
+-- split gives the fields of a line
+pub split_fields : {F : Type 0} {s : _} {g : Mut F (Bor ℕ × Unit {0}) Bool} (line : List ℕ) → slice.split_rest s ≡ line → slice.split_done s ≡ false
+    → ((x : ℕ) (b : Bool) (q : F) → CalledAt g (slice.split_callee s) x b q → (q ≡ slice.split_callee s) × (b ≡ eqb x 32)) → YieldsList (slice.split_steps g) (λ x. x.now) s (fields_of line)
+split_fields {g = g} line rest done tests = rw (← fields_split line) (YieldsList-from_slice_split g (λ b. eqb b 32) line rest done refl tests)
 
 -- a call of next takes the first of what is left
 module _ {S A B : Type 0} {steps : S → Option A → S → Type 0} {v : A → B} {s t : S} {all : List B} (left : YieldsList steps v s all) {r : Option A} (step : steps s r t) where
@@ -81,9 +78,9 @@ no_want a b c (d ∷ more) h = refl
 
 -- the fields of a line, taken one after the other by calls of next
 module _ {S : Type 0} {steps : S → Option (Bor (List ℕ)) → S → Type 0} {s0 s1 : S} (line : List ℕ)
-    (fields : YieldsList steps (λ x. x.now) s0 (slice_split (λ b. eqb b 32) line)) {r1 : Option (Bor (List ℕ))} (step1 : steps s0 r1 s1) {a : Bor (List ℕ)} (is1 : r1 ≡ Some a) where
+    (fields : YieldsList steps (λ x. x.now) s0 (fields_of line)) {r1 : Option (Bor (List ℕ))} (step1 : steps s0 r1 s1) {a : Bor (List ℕ)} (is1 : r1 ≡ Some a) where
   first_field : (rest : List (List ℕ)) × (fields_of line ≡ a.now ∷ rest) × YieldsList steps (λ x. x.now) s1 rest
-  first_field = next_some (rw (fields_split line) at fields) step1 is1
+  first_field = next_some fields step1 is1
 
   pub line_no_op : {op : Option Op} → op ≡ op_of a.now → op ≡ None → None ≡ line_of line
   unfolding line_of
@@ -140,7 +137,7 @@ no_limit a b [] h = rw h (go (number_of a))
 no_limit a b (c ∷ more) h = refl
 
 module _ {S : Type 0} {steps : S → Option (Bor (List ℕ)) → S → Type 0} {s0 s1 : S} (line : List ℕ)
-    (fields : YieldsList steps (λ x. x.now) s0 (slice_split (λ b. eqb b 32) line)) {r1 : Option (Bor (List ℕ))} (step1 : steps s0 r1 s1) {a : Bor (List ℕ)} (is1 : r1 ≡ Some a) where
+    (fields : YieldsList steps (λ x. x.now) s0 (fields_of line)) {r1 : Option (Bor (List ℕ))} (step1 : steps s0 r1 s1) {a : Bor (List ℕ)} (is1 : r1 ≡ Some a) where
   pub start_no_ergs : {ergs : Option ℕ} → ergs ≡ number_of a.now → ergs ≡ None → None ≡ start_of line
   unfolding start_of
   start_no_ergs e h = let one = first_field line fields step1 is1 in rw one.1 (no_ergs a.now one.0 (sym e ∙ h))
@@ -194,9 +191,7 @@ op_length field {op} e = go (dec_le 2 (length field))
     go : Dec (2 ≤ length field) → 2 ≤ length field
     go (yes h) = h
     go (no h) =
-        let b = op_short field (omega arith) in
-        let z : ◌≡◌ {A = ℕ} 0 1 = cc in
-        absurd (omega arith)
+        absurd (none-some op (sym (op_short field (omega arith)) ∙ e))
 
 -- a line that runs an op has six bytes at least
 pub run_length : (line : List ℕ) {l : Line} → line_of line ≡ Some l → 6 ≤ length line
@@ -205,15 +200,15 @@ run_length line {l} = go (fields_of line) refl
   where
     fields : (a b c : List ℕ) → fields_of line ≡ a ∷ b ∷ c ∷ [] → (o : Option Op) (p w : Option ℕ) → op_of a ≡ o → number_of b ≡ p → number_of c ≡ w
         → run_line o p w ≡ Some l → 6 ≤ length line
-    fields a b c e None p w f g h q = let z : ◌≡◌ {A = ℕ} 0 1 = cc in absurd (omega arith)
-    fields a b c e (Some o) None w f g h q = let z : ◌≡◌ {A = ℕ} 0 1 = cc in absurd (omega arith)
-    fields a b c e (Some o) (Some p) None f g h q = let z : ◌≡◌ {A = ℕ} 0 1 = cc in absurd (omega arith)
+    fields a b c e None p w f g h q = absurd (none-some l q)
+    fields a b c e (Some o) None w f g h q = absurd (none-some l q)
+    fields a b c e (Some o) (Some p) None f g h q = absurd (none-some l q)
     fields a b c e (Some o) (Some p) (Some w) f g h q =
         omega (arith, fields_length line a b c e, op_length a f, number_some b p g, number_some c w h)
 
     go : (ps : List (List ℕ)) → fields_of line ≡ ps → line_fields ps ≡ Some l → 6 ≤ length line
-    go [] e q = let z : ◌≡◌ {A = ℕ} 0 1 = cc in absurd (omega arith)
-    go (a ∷ []) e q = let z : ◌≡◌ {A = ℕ} 0 1 = cc in absurd (omega arith)
-    go (a ∷ b ∷ []) e q = let z : ◌≡◌ {A = ℕ} 0 1 = cc in absurd (omega arith)
+    go [] e q = absurd (none-some l q)
+    go (a ∷ []) e q = absurd (none-some l q)
+    go (a ∷ b ∷ []) e q = absurd (none-some l q)
     go (a ∷ b ∷ c ∷ []) e q = fields a b c e (op_of a) (number_of b) (number_of c) refl refl refl q
-    go (a ∷ b ∷ c ∷ d ∷ more) e q = let z : ◌≡◌ {A = ℕ} 0 1 = cc in absurd (omega arith)
+    go (a ∷ b ∷ c ∷ d ∷ more) e q = absurd (none-some l q)

@@ -1,6 +1,6 @@
 -- Rows printed. Assumes nothing.
-use Prim.Native.Nat.{ℕ, ◌≤◌}
-use mathlib.Core.List.{[], ◌∷◌, ◌++◌}
+use Prim.Native.Nat.{ℕ, ◌+◌, ◌≤◌}
+use mathlib.Core.List.{List, [], ◌∷◌, ◌++◌}
 use native.Mathlib.Omega.{arith}
 use lib.ListN.{length, length-append}
 use Rattle.text.specs.declared.Writer.{Writer}
@@ -10,7 +10,7 @@ use Rattle.text.proofs.NumberLaws.{digits_length}
 use Rattle.table.specs.declared.Op.{Op}
 use Rattle.table.specs.declared.Row.{Row}
 use Rattle.table.specs.Line.{name_of}
-use Rattle.table.specs.Row.{field, row_text, bad_line, refused_with}
+use Rattle.table.specs.Row.{field, row_text}
 
 -- the parts of a row, written one after the other
 pub wrote_row : (w0 : Writer) (row : Row) {w1 w2 w3 w4 w5 w6 w7 w8 : Writer}
@@ -52,10 +52,6 @@ row_length r =
       digits_length 19 r.own,
     ))
 
--- what is printed of a bad line has 30 bytes at most
-pub bad_length : (n : ℕ) → length (bad_line n) ≤ 30
-bad_length n = simp length-append (omega (arith, digits_length 19 n))
-
--- and what is printed of a refusal
-pub refused_length : (n : ℕ) → length (refused_with n) ≤ 30
-refused_length n = simp length-append (omega (arith, digits_length 19 n))
+-- a label and a number: what is printed of a bad line, or of a refusal
+pub labelled_length : (label : List ℕ) (n : ℕ) → length (label ++ field n 10) ≤ length label + 21
+labelled_length label n = simp length-append (omega (arith, digits_length 19 n))

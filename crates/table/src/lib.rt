@@ -20,7 +20,7 @@ pub enum Op {
 }
 
 impl Op {
-    // What a list calls it and the listing prints.
+    // What a list calls it and the listing prints. One match, an expression for each op: they are bytes, which a `Display` would not give.
     fn name(self) -> &'static [u8]
         ensures { result.now ≡ name_of self }
     {

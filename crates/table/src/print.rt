@@ -14,7 +14,7 @@ fn put_field(writer: &mut Writer<'_>, number: u64, separator: u8)
     writer.put_byte(separator);
 }
 
-// Not by `write!`, which promises its text only where it answers Ok.
+// Part by part: `write!` promises its text only where it answers Ok, and here nothing fails or is allocated.
 pub fn put_row(writer: &mut Writer<'_>, row: Row)
     ensures { Wrote writer.old (row_text row) writer.new }
 {
@@ -42,7 +42,7 @@ pub fn put_bad_line(writer: &mut Writer<'_>, n: u64)
     put_labelled(writer, b"bad line ", n);
 }
 
-// A number, since any is printed the same.
+// Any number may be given, as it was: a `Refusal` would ask callers for one of the fifteen.
 pub fn put_refused(writer: &mut Writer<'_>, number: u32)
     ensures { Wrote writer.old (refused_with number) writer.new }
 {
