@@ -16,13 +16,14 @@ use Rattle.text.proofs.BytesLaws.{whole}
 use Rattle.table.specs.declared.Line.{Line}
 use Rattle.table.specs.declared.Start.{Start}
 use Rattle.table.specs.Line.{line_of, start_of}
-use Rattle.table.specs.Row.{row_text, bad_line, names_line}
+use Rattle.table.specs.Row.{bad_line, names_line}
 use Rattle.table.proofs.LineLaws.{run_length}
-use Rattle.table.proofs.RowLaws.{row_length, bad_length, refused_length}
+use Rattle.table.proofs.RowLaws.{row_length, labelled_length}
 use Rattle.std.specs.Prelude.{Result, Ok, Err}
 use Rattle.refusal.specs.declared.Refusal.{Refusal}
 use Rattle.refusal.specs.Refusal.{paper_number}
 use Rattle.runs.specs.Run.{Run, start_run, ran_of, run_after, printed_row}
+use Rattle.listing.proofs.ListingLaws.{cycle_row}
 use Rattle.listing.specs.Listing.{going_on, line_text, lines_text, named, third_on, started, second_on, first_on, listing_of}
 
 -- the bytes of lines, with one for each line's end
@@ -50,16 +51,21 @@ size_drop (l ∷ ls) = omega arith
 line_size : (limit n : ℕ) (b : Run) (read : Option Line) (bytes : ℕ) → (later : Run → List ℕ) (more : ℕ)
     → ((line : Line) → read ≡ Some line → 6 ≤ bytes) → ((next : Run) → length (later next) ≤ more) → 30 ≤ more
     → length (line_text limit n b read later) ≤ 20 * (bytes + 1) + more
-line_size limit n b None bytes later more k h m = omega (arith, bad_length (n + 3))
+line_size limit n b None bytes later more k h m = omega (arith, labelled_length (bytes_of "bad line ") (n + 3))
 line_size limit n b (Some line) bytes later more k h m = go (ran_of limit line b).answer
   where
     go : (answer : Result (Unit {0}) Refusal)
-        → length (going_on answer (row_text (printed_row n line.op (ran_of limit line b).charge (run_after limit line b)) ++ later (run_after limit line b)))
+        → length (going_on answer (cycle_row limit n b line ++ later (run_after limit line b)))
         ≤ 20 * (bytes + 1) + more
     go (Ok done) =
-        let r = printed_row n line.op (ran_of limit line b).charge (run_after limit line b) in
-        omega (arith, length-append (row_text r) (later (run_after limit line b)), row_length r, h (run_after limit line b), k line refl)
-    go (Err refusal) = omega (arith, refused_length (paper_number refusal))
+        omega (
+          arith,
+          length-append (cycle_row limit n b line) (later (run_after limit line b)),
+          row_length (printed_row n line.op (ran_of limit line b).charge (run_after limit line b)),
+          h (run_after limit line b),
+          k line refl,
+        )
+    go (Err refusal) = omega (arith, labelled_length (bytes_of "refused ") (paper_number refusal))
 
 lines_size : (limit n : ℕ) (b : Run) (lines : List (List ℕ)) → length (lines_text limit n b lines) ≤ 20 * size lines + 30
 unfolding size
@@ -73,7 +79,7 @@ lines_size limit n b (l ∷ ls) =
 -- a line of names
 named_size : (n : ℕ) (t : Bool) (later : List ℕ) (most : ℕ) → length later ≤ most → 30 ≤ most → length (named n t later) ≤ most
 named_size n true later most h m = h
-named_size n false later most h m = omega (arith, bad_length n)
+named_size n false later most h m = omega (arith, labelled_length (bytes_of "bad line ") n)
 
 third_size : (ergs limit : ℕ) (lines : List (List ℕ)) → length (third_on ergs limit lines) ≤ 20 * size lines + 30
 unfolding third_on
@@ -82,7 +88,7 @@ third_size ergs limit lines =
     (omega (arith, lines_size limit 1 (start_run ergs) (drop 1 lines), size_drop lines)) (omega arith)
 
 started_size : (start : Option Start) (lines : List (List ℕ)) → length (started start lines) ≤ 20 * size lines + 30
-started_size None lines = omega (arith, bad_length 2)
+started_size None lines = omega (arith, labelled_length (bytes_of "bad line ") 2)
 started_size (Some start) lines = third_size start.ergs start.limit lines
 
 first_size : (lines : List (List ℕ)) → length (first_on lines) ≤ 20 * size lines + 30
@@ -97,7 +103,7 @@ unfolding listing_of
 fits input = go (ltb 65536 (length input)) refl
   where
     go : (t : Bool) → ltb 65536 (length input) ≡ t → length (names_line ++ cond t (bad_line 0) (first_on (lines_of input))) ≤ 1310848
-    go true e = omega (arith, length-append names_line (bad_line 0), bad_length 0)
+    go true e = omega (arith, length-append names_line (bad_line 0), labelled_length (bytes_of "bad line ") 0)
     go false e =
         omega (arith, length-append names_line (first_on (lines_of input)), first_size (lines_of input), size_cut input, ltb-false 65536 (length input) e)
 

@@ -17,14 +17,15 @@ pub const TOO_LONG: usize = 65537;
 // Room for the longest listing: 20 bytes for each byte of the longest input, and 128 for the names line and what ends the listing.
 pub const ROOM: usize = 1310848;
 
-// The largest limit of a list, and the places of the store and of the tally for it.
+// The largest limit of a list, and the places of the store and of the tally for it: arrays, since nothing is allocated.
 const DEEPEST: usize = 16;
 
 const STORE: usize = frame::ROW_WIDTH * DEEPEST;
 
 const TALLY: usize = DEEPEST + 1;
 
-// The lines from the fourth on, each of which is a cycle.
+// The lines from the fourth on, each of which is a cycle. The position is asked for here and is no invariant of the writer, whose fields are
+// public: callers may give any.
 fn put_cycles(start: Start, lines: Lines<'_>, writer: &mut Writer<'_>)
     requires { writer.old.position ≤ length writer.old.buffer.now }
     ensures { Wrote writer.old (lines_text start.limit 1 (start_run start.ergs) (lines_left lines.entry)) writer.new }
@@ -32,8 +33,7 @@ fn put_cycles(start: Start, lines: Lines<'_>, writer: &mut Writer<'_>)
     let mut store = [0u32; STORE];
     let mut tally = [0u64; TALLY];
     let mut state = stepper::start_state(start.ergs, 0);
-    for (index, line) in lines.enumerate() {
-        let cycle = index as u64 + 1;
+    for (line, cycle) in lines.zip(1u64..) {
         let Some(line) = table::line_of(line) else {
             return table::put_bad_line(writer, cycle + 3);
         };
@@ -54,19 +54,25 @@ fn next_line<'a>(lines: &mut Lines<'a>) -> &'a [u8]
     lines.next().unwrap_or(b"")
 }
 
-// Where the first three lines start, or the number of the first of them that is bad.
+// The number of a line that is bad.
+#[derive(Clone, Copy)]
+struct BadLine {
+    number: u64,
+}
+
+// Where the first three lines start, or the first of them that is bad.
 #[tactic(auto, unfolding(crate::specs::Listing::first_on, crate::specs::Listing::second_on, crate::specs::Listing::third_on))]
-fn read_start(lines: &mut Lines<'_>) -> Result<Start, u64>
+fn read_start(lines: &mut Lines<'_>) -> Result<Start, BadLine>
     ensures { MatchResult result
         (λ start. first_on (lines_left lines.old) ≡ lines_text start.limit 1 (start_run start.ergs) (lines_left lines.new))
-        (λ number. first_on (lines_left lines.old) ≡ bad_line number) }
+        (λ bad. first_on (lines_left lines.old) ≡ bad_line bad.number) }
 {
     if next_line(lines) != b"ergs limit".as_slice() {
-        return Err(1);
+        return Err(BadLine { number: 1 });
     }
-    let start = table::start_of(next_line(lines)).ok_or(2u64)?;
+    let start = table::start_of(next_line(lines)).ok_or(BadLine { number: 2 })?;
     if next_line(lines) != b"op price want".as_slice() {
-        return Err(3);
+        return Err(BadLine { number: 3 });
     }
     Ok(start)
 }
@@ -82,7 +88,7 @@ fn put_listing(input: &[u8], writer: &mut Writer<'_>)
     let mut lines = Lines::new(input);
     match read_start(&mut lines) {
         Ok(start) => put_cycles(start, lines, writer),
-        Err(number) => table::put_bad_line(writer, number),
+        Err(bad) => table::put_bad_line(writer, bad.number),
     }
 }
 

@@ -22,6 +22,7 @@ fn read_full(input: &mut impl Read, buffer: &mut [u8]) -> usize
     size
 }
 
+// Arrays of the greatest size, since nothing is allocated.
 fn main(rt: HostRuntime) {
     let mut input = [0u8; TOO_LONG];
     let size = read_full(&mut rt.stdin(), &mut input);

@@ -22,4 +22,4 @@ pub returns-in-Err : goal.returns-in-Err
 unfolding listing_of
 returns-in-Err c =
     rw (le-ltb 65536 (length c.args.input.now) (omega arith), ← c.new-lines.ensures, (rw c.in-Err.is at c.read_start.ensures))
-    (join c.args.writer.now names_line (bad_line c.in-Err.number) c.put_bytes.ensures c.put_bad_line-in-Err.ensures)
+    (join c.args.writer.now names_line (bad_line c.in-Err.bad.number) c.put_bytes.ensures c.put_bad_line-in-Err.ensures)
