@@ -1,6 +1,6 @@
 -- A stage's outcome is a refusal that changes nothing, or finished with what the stage does. Assumes nothing.
 use Prim.Native.Nat.{ℕ}
-use mathlib.Core.Bool.{Bool, true, false, cond, ◌||◌}
+use mathlib.Core.Bool.{Bool, true, false, cond}
 use mathlib.Core.Path.{◌≡◌, refl}
 use mathlib.Core.Logic.{◌⊎◌, inl, inr}
 use mathlib.Core.List.{List, [], ◌∷◌}
@@ -8,7 +8,11 @@ use lib.Dec.{T, eqb}
 use native.Mathlib.Omega.{arith}
 use borrow.Author.Tests.{eqb-true, eqb-false}
 use Rattle.std.proofs.lemmas.Bool.Decides.{nat_tests}
+use Rattle.std.specs.List.{list_all, list_any}
 use Rattle.refusal.specs.Refusal.{Check, first_of, paper_number, numbered_refusal}
+use Rattle.refusal.proofs.NumberLaws
+use Rattle.refusal.proofs.NumberLaws.{is_told, first_in}
+pub use Rattle.refusal.proofs.NumberLaws.{numbers_in}
 use Rattle.cycle.specs.declared.State.{State}
 use Rattle.cycle.specs.State.{settled}
 use Rattle.lists.specs.Machine.{Outcome, finished}
@@ -53,35 +57,19 @@ abbrev pub within : List ℕ → List ℕ → Bool
 within [] ms = true
 within (n ∷ ns) ms = cond (is_one_of n ms) (within ns ms) false
 
--- the numbers of checks
-abbrev pub numbers_in : List Check → List ℕ
-numbers_in [] = []
-numbers_in (c ∷ cs) = c.number ∷ numbers_in cs
-
 widen : (n : ℕ) (ns ms : List ℕ) → T (within ns ms) → is_one_of n ns ≡ true → is_one_of n ms ≡ true
 widen n [] ms t e = absurd (cc)
 widen n (k ∷ ns) ms t e = grind (arith, nat_tests, widen n ns ms)
 
-first_in : (cs : List Check) → (first_of cs ≡ 0 → ⊥) → is_one_of (first_of cs) (numbers_in cs) ≡ true
-first_in [] h = absurd (h refl)
-first_in (c ∷ cs) h = grind (arith, nat_tests, first_in cs)
+-- in std's words
+one_in : (n : ℕ) (ms : List ℕ) → is_one_of n ms ≡ list_any (eqb n) ms
+one_in n [] = refl
+one_in n (m ∷ ms) = rw (one_in n ms) refl
 
 -- the number of checks that refuse is one of a list that has all theirs
 pub listed : (cs : List Check) (ms : List ℕ) → T (within (numbers_in cs) ms) → (first_of cs ≡ 0 → ⊥) → is_one_of (first_of cs) ms ≡ true
-listed cs ms t h = widen (first_of cs) (numbers_in cs) ms t (first_in cs h)
+listed cs ms t h = widen (first_of cs) (numbers_in cs) ms t (rw one_in (first_in cs h))
 
--- the numbers are those of refusals
-abbrev pub all_told : List ℕ → Bool
-all_told [] = true
-all_told (m ∷ ms) = cond (eqb (paper_number (numbered_refusal m)) m) (all_told ms) false
-
--- the refusal of one of them has it
-pub told_back : (n : ℕ) (ms : List ℕ) → T (all_told ms) → is_one_of n ms ≡ true → paper_number (numbered_refusal n) ≡ n
-told_back n [] t e = absurd (cc)
-told_back n (m ∷ ms) t e = by_test (told_back n ms) (eqb (paper_number (numbered_refusal m)) m) refl (eqb n m) refl t e
-  where
-    by_test : (T (all_told ms) → is_one_of n ms ≡ true → paper_number (numbered_refusal n) ≡ n) → (a : Bool) → eqb (paper_number (numbered_refusal m)) m ≡ a → (b : Bool) → eqb n m ≡ b
-        → T (cond a (all_told ms) false) → (b || is_one_of n ms) ≡ true → paper_number (numbered_refusal n) ≡ n
-    by_test later true ea true eb t e = let k = eqb-true n m eb in rw k (eqb-true _ _ ea)
-    by_test later true ea false eb t e = later t e
-    by_test later false ea b eb t e = elim t [ ]
+-- the refusal of a number has it
+pub told_back : (n : ℕ) (ms : List ℕ) → T (list_all is_told ms) → is_one_of n ms ≡ true → paper_number (numbered_refusal n) ≡ n
+told_back n ms t e = NumberLaws.told_back n ms t (rw one_in at e)

@@ -1,5 +1,7 @@
 -- A refusal and its number. Assumes nothing.
-use Rattle.std.proofs.Common.{◌≡◌, Bool, true, false, cond, ◌&&◌, T, eqb, List, [], ◌∷◌, refl, eqb-true}
+use Rattle.std.proofs.Common.{◌≡◌, ℕ, Bool, true, T, eqb, List, [], ◌∷◌, refl, arith}
+use Rattle.std.proofs.lemmas.Bool.Decides.{nat_tests}
+use Rattle.std.specs.List.{list_all, list_any}
 use Rattle.refusal.specs.declared.Refusal.{Refusal}
 use Rattle.refusal.specs.Refusal.{Check, first_of, paper_number, numbered_refusal}
 
@@ -21,24 +23,29 @@ numbered_number Refusal.HeapBound = refl
 numbered_number Refusal.Above32Bits = refl
 numbered_number Refusal.TallyEntry = refl
 
+-- whether a number is a refusal's
+abbrev pub is_told : ℕ → Bool
+is_told n = eqb (paper_number (numbered_refusal n)) n
+
+-- where all numbers of a list are refusals', the refusal of one of them has it
+pub told_back : (n : ℕ) (ns : List ℕ) → T (list_all is_told ns) → list_any (eqb n) ns ≡ true → paper_number (numbered_refusal n) ≡ n
+told_back n [] t e = absurd (cc)
+told_back n (m ∷ ns) t e = grind (arith, nat_tests, told_back n ns)
+
+-- the numbers of checks
+abbrev pub numbers_in : List Check → List ℕ
+numbers_in [] = []
+numbers_in (c ∷ cs) = c.number ∷ numbers_in cs
+
+-- the number of checks that refuse is one of theirs
+pub first_in : (cs : List Check) → (first_of cs ≡ 0 → ⊥) → list_any (eqb (first_of cs)) (numbers_in cs) ≡ true
+first_in [] h = absurd (h refl)
+first_in (c ∷ cs) h = grind (arith, nat_tests, first_in cs)
+
 -- the numbers of the checks are those of refusals
 abbrev pub all_numbered : List Check → Bool
-all_numbered [] = true
-all_numbered (c ∷ cs) = eqb (paper_number (numbered_refusal c.number)) c.number && all_numbered cs
-
-both : (a b : Bool) → T (a && b) → (a ≡ true) × T b
-both true b t = (refl, t)
-both false b t = elim t [ ]
+all_numbered cs = list_all is_told (numbers_in cs)
 
 -- where a check holds, its refusal has its number
 pub number_first : (cs : List Check) → T (all_numbered cs) → (first_of cs ≡ 0 → ⊥) → paper_number (numbered_refusal (first_of cs)) ≡ first_of cs
-number_first [] t h = absurd (h refl)
-number_first (c ∷ cs) t h = go (number_first cs parts.1) c.holds refl
-  where
-    parts : (eqb (paper_number (numbered_refusal c.number)) c.number ≡ true) × T (all_numbered cs)
-    parts = both (eqb (paper_number (numbered_refusal c.number)) c.number) (all_numbered cs) t
-
-    go : ((first_of cs ≡ 0 → ⊥) → paper_number (numbered_refusal (first_of cs)) ≡ first_of cs) → (b : Bool) → c.holds ≡ b
-        → paper_number (numbered_refusal (cond b c.number (first_of cs))) ≡ cond b c.number (first_of cs)
-    go later true e = eqb-true _ _ parts.0
-    go later false e = later (λ z. h (rw e z))
+number_first cs t h = told_back (first_of cs) (numbers_in cs) t (first_in cs h)
