@@ -37,7 +37,7 @@ pub struct U128 {
 pub struct PubdataCost(pub i32);
 
 // The Rust's `CallStackEntry`. The order leaves no hole of 3, 5, 6 or 7 bytes: such a hole slows each copy down.
-#[derive(Clone, Copy)]
+#[derive(Clone, Copy, Default)]
 pub struct Frame {
     pub context_u128_value: U128,
     pub this_address: Address,

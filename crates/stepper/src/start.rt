@@ -2,33 +2,18 @@
 ghost use Rattle.std.specs.Prelude.{◌≡◌, false};
 ghost use Rattle.stepper.specs.Start as start;
 
-use cycle::{Kept, State};
-use frame::{Address, Frame, PubdataCost, U128};
+use cycle::{Kept, Stage, State};
+use frame::{Frame, PubdataCost};
+use rules::kinds::{Operation, ReturnKind};
 use rules::{Flags, Location, Record, Records, Settings};
 
 pub fn far_frame(ergs: u32, sp: u16) -> Frame
     ensures { result ≡ start.far_frame ergs sp }
 {
     Frame {
-        context_u128_value: U128::default(),
-        this_address: Address::default(),
-        msg_sender: Address::default(),
-        code_address: Address::default(),
-        base_memory_page: 0,
-        code_page: 0,
         ergs_remaining: ergs,
         sp,
-        pc: 0,
-        exception_handler_location: 0,
-        this_shard_id: 0,
-        caller_shard_id: 0,
-        code_shard_id: 0,
-        is_static: false,
-        is_local_frame: false,
-        heap_bound: 0,
-        aux_heap_bound: 0,
-        total_pubdata_spent: PubdataCost::default(),
-        stipend: 0,
+        ..Frame::default()
     }
 }
 
@@ -51,7 +36,6 @@ pub fn instruction(
     Record {
         operation,
         return_kind,
-        condition: 0,
         source_kind,
         destination_kind,
         src0,
@@ -60,14 +44,8 @@ pub fn instruction(
         imm_0,
         imm_1,
         price,
-        explicit_panic: false,
-        kernel_only: false,
-        allowed_when_static: false,
-        swap: false,
         set_flags,
-        to_label: false,
-        src0_may_be_pointer: false,
-        src1_may_be_pointer: false,
+        ..Record::default()
     }
 }
 
@@ -75,7 +53,11 @@ pub fn instruction(
 pub fn records_of(plain: Record) -> Records
     ensures { result ≡ start.records_of plain }
 {
-    let panic = instruction(4, 2, 0, 0, 0, 0, 0, 0, 0, 0, false);
+    let panic = Record {
+        operation: Operation::Ret as u8,
+        return_kind: ReturnKind::Panic as u8,
+        ..Record::default()
+    };
     Records {
         plain,
         panic,
@@ -117,7 +99,7 @@ pub fn start_state(ergs: u32, sp: u16) -> State
         pubdata_revert_counter: PubdataCost::default(),
         previous_super_pc: 0,
         pointers: [false; 15],
-        stage: 0,
+        stage: Stage::Fetch as u8,
         has_word: false,
         pending_exception: false,
     }
