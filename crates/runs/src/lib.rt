@@ -8,6 +8,7 @@ ghost use Rattle.runs.specs.Run.{op_record, input_of, requested_state, ran_of, s
 use cycle::State;
 use refusal::Refusal;
 use rules::Record;
+use rules::kinds::{Operation, ReturnKind};
 use stepper::Input;
 use table::{Line, Op, Row};
 use u256::U256;
@@ -20,15 +21,23 @@ pub struct Ran {
     pub answer: Result<(), Refusal>,
 }
 
+// An add and a call have a return kind as well: number 0, that of ok.
 fn record_of(op: Op, price: u32) -> Record
     ensures { result ≡ op_record op price }
 {
-    match op {
-        Op::Add => stepper::instruction(1, 0, 0, 0, 0, 0, 0, 0, 0, price, false),
-        Op::Call => stepper::instruction(3, 0, 0, 0, 1, 0, 0, 0, 0, price, false),
-        Op::Ok => stepper::instruction(4, 0, 0, 0, 0, 0, 0, 0, 0, price, false),
-        Op::Revert => stepper::instruction(4, 1, 0, 0, 0, 0, 0, 0, 0, price, false),
-        Op::Panic => stepper::instruction(4, 2, 0, 0, 0, 0, 0, 0, 0, price, false),
+    let (operation, return_kind, src0) = match op {
+        Op::Add => (Operation::Add, ReturnKind::Ok, 0),
+        Op::Call => (Operation::NearCall, ReturnKind::Ok, 1),
+        Op::Ok => (Operation::Ret, ReturnKind::Ok, 0),
+        Op::Revert => (Operation::Ret, ReturnKind::Revert, 0),
+        Op::Panic => (Operation::Ret, ReturnKind::Panic, 0),
+    };
+    Record {
+        operation: operation as u8,
+        return_kind: return_kind as u8,
+        src0,
+        price,
+        ..Record::default()
     }
 }
 
@@ -58,6 +67,7 @@ pub fn requested(mut state: State, want: u32) -> State
 }
 
 // The cycle of a line, and its entry in the tally. A stage's refusal leaves the state that the stage was given, in mid-cycle; the tally's leaves the finished cycle.
+// State, store and tally are no struct, here and in `row_of`: a caller that has the three apart would make one at each call, and take it apart again.
 #[tactic(auto, unfolding(crate::specs::Run::ran_of, crate::specs::Run::store_after, crate::specs::Run::entries_after))]
 pub fn run_line(state: State, limit: u32, store: &mut [u32], tally: &mut [u64], line: Line) -> Ran
     ensures { (result ≡ ran_of limit line (record { state = state; store = store.old; tally = tally.old }))
@@ -81,11 +91,11 @@ pub fn run_line(state: State, limit: u32, store: &mut [u32], tally: &mut [u64], 
     }
 }
 
+// The tally's place at the depth, 0 where it has none. The cast makes an index: `From` makes no usize of a u32.
 fn own_of(tally: &[u64], depth: u32) -> u64
     ensures { result ≡ get_or tally.now depth 0 }
 {
-    let at = depth as usize;
-    if at < tally.len() { tally[at] } else { 0 }
+    tally.get(depth as usize).copied().unwrap_or(0)
 }
 
 // The ergs of the current frame and of those saved.
