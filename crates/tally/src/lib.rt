@@ -1,4 +1,4 @@
-// The spend tally: what each frame was charged while it was the current one, by depth.
+// The spend tally: what each frame was charged while it was the current one, by depth. A depth or limit is cast where it is an index or held against a length: `From` makes no usize of a u32.
 #![tactic(auto)]
 
 ghost use Rattle.std.specs.Prelude.{◌≡◌};
