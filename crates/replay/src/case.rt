@@ -11,7 +11,8 @@ use u256::U256;
 // The greatest limit and depth that are served.
 const MOST_ROWS: u32 = 16;
 
-// The words of a store for them: nothing is allocated, so each case has room for the greatest.
+// The words of a store for them: nothing is allocated, so each case has room for the greatest. Rows are cast here and in `words_of`,
+// since `From` makes no usize of a u32.
 pub(crate) const STORE: usize = MOST_ROWS as usize * ROW_WIDTH;
 
 #[derive(Drop)]
@@ -88,7 +89,7 @@ fn flags(numbers: &mut Numbers) -> Option<Flags> {
     })
 }
 
-// The current frame, where each of its words fits its field.
+// The current frame, where each of its words fits its field. Nothing is allocated, so its row is an array.
 fn current(numbers: &mut Numbers) -> Option<Frame> {
     let mut row = [0u32; ROW_WIDTH];
     for word in &mut row {
@@ -122,6 +123,8 @@ fn state(numbers: &mut Numbers) -> Option<State> {
     })
 }
 
+// The benchmarks read a record from words, of which they cut what is too wide; here a number that is too wide makes the line unread,
+// so that one reader cannot serve both.
 fn record(numbers: &mut Numbers) -> Option<Record> {
     Some(Record {
         operation: numbers.read()?,

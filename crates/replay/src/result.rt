@@ -49,7 +49,7 @@ fn put_counters(out: &mut Writer, state: &State) {
     put(out, state.depth);
 }
 
-// As it would be saved.
+// As it would be saved, in a row's own array: nothing is allocated.
 fn put_frame(out: &mut Writer, current: Frame) {
     let mut row = [0u32; ROW_WIDTH];
     let _ = frame::save_frame(&mut row, 0, current);
@@ -63,23 +63,22 @@ fn put_state(out: &mut Writer, state: &State, store: &[u32; STORE]) {
     put_all(out, &store[..words_of(state.depth)]);
 }
 
-fn put_place(out: &mut Writer, place: Location) {
+// Its kind, page and index.
+fn place_numbers(place: Location) -> [u32; 3] {
     match place {
-        Location::None => put_all(out, &[0u32; 3]),
+        Location::None => [0; 3],
         Location::At {
             memory_type,
             page,
             index,
-        } => put_all(out, &[u32::from(memory_type), page, index]),
+        } => [u32::from(memory_type), page, index],
     }
 }
 
-// That a read was wanted stands for its kind, which is always code.
+// That a read was wanted, 1, stands for its kind, which is always code.
 fn put_read(out: &mut Writer, place: Location) {
-    match place {
-        Location::None => put_all(out, &[0u32; 3]),
-        Location::At { page, index, .. } => put_all(out, &[1, page, index]),
-    }
+    let [kind, page, index] = place_numbers(place);
+    put_all(out, &[kind.min(1), page, index]);
 }
 
 fn put_fetch(out: &mut Writer, answer: FetchAnswer) {
@@ -90,7 +89,7 @@ fn put_fetch(out: &mut Writer, answer: FetchAnswer) {
     }
 }
 
-// A bit for each flag.
+// A bit for each flag: what a line has is numbers.
 fn errors_number(errors: ErrorFlags) -> u8 {
     u8::from(errors.invalid_opcode)
         | u8::from(errors.not_enough_ergs) << 1
@@ -105,8 +104,8 @@ fn put_decode(out: &mut Writer, answer: DecodeAnswer) {
 }
 
 fn put_operands(out: &mut Writer, answer: OperandsAnswer) {
-    put_place(out, answer.source);
-    put_place(out, answer.destination);
+    put_all(out, &place_numbers(answer.source));
+    put_all(out, &place_numbers(answer.destination));
 }
 
 fn put_write(out: &mut Writer, write: Option<Write>) {
@@ -120,6 +119,7 @@ fn put_write(out: &mut Writer, write: Option<Write>) {
     put(out, write.value.is_pointer);
 }
 
+// A number, as all that a line has.
 fn event_number(event: Option<Event>) -> u8 {
     match event {
         None => 0,

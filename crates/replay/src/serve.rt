@@ -2,22 +2,17 @@
 use crate::case::Case;
 use crate::result;
 use std::io::Read;
+use std::ops::ControlFlow;
 use text::Writer;
 
 // Room for a line of the input, as nothing is allocated. A line that fills it is not read.
 const LINE: usize = 65536;
 
-// Room for the longest result, at depth 16 with 20 digits each.
+// Room for the longest result, at depth 16 with 20 digits each: nothing is allocated.
 const ROOM: usize = 20480;
 
-// What the buffer begins with between two reads.
-#[derive(Clone, Copy)]
-enum Held {
-    // so many bytes of a line
-    Start(usize),
-    // nothing: the rest of the line is skipped
-    Skipping,
-}
+// How many bytes of a line the buffer begins with between two reads; None where the rest of the line is skipped.
+type Held = Option<usize>;
 
 fn is_line_end(byte: &u8) -> bool {
     *byte == b'\n'
@@ -54,45 +49,46 @@ fn run_line(rt: &impl Print, line: &[u8]) {
 // Runs each line that has its end, and moves what is left to the front.
 fn run_lines(rt: &impl Print, bytes: &mut [u8], held: Held) -> Held {
     let Some(end) = bytes.iter().rposition(is_line_end) else {
-        return match held {
-            Held::Start(_) => Held::Start(bytes.len()),
-            Held::Skipping => Held::Skipping,
-        };
+        return held.and(Some(bytes.len()));
     };
-    let skipped = usize::from(matches!(held, Held::Skipping));
+    let skipped = usize::from(held.is_none());
     for line in bytes[..end].split(is_line_end).skip(skipped) {
         run_line(rt, line);
     }
     bytes.copy_within(end + 1.., 0);
-    Held::Start(bytes.len() - end - 1)
+    Some(bytes.len() - end - 1)
 }
 
-// Reads once, and runs the lines that are whole then. None is the end of the input; a read that fails counts as that.
-fn turn(rt: &impl Print, input: &mut impl Read, buffer: &mut [u8], held: Held) -> Option<Held> {
-    let start = match held {
-        Held::Start(start) => start,
-        Held::Skipping => 0,
-    };
+// Reads once, and runs the lines that are whole then. It breaks at the end of the input; a read that fails counts as that.
+fn turn(
+    rt: &impl Print,
+    input: &mut impl Read,
+    buffer: &mut [u8],
+    held: Held,
+) -> ControlFlow<(), Held> {
+    let start = held.unwrap_or(0);
     if buffer.len() <= start {
         let _ = rt.write_all(b"unread\n");
-        return Some(Held::Skipping);
+        return ControlFlow::Continue(None);
     }
     let count = input.read(&mut buffer[start..]).unwrap_or(0);
     if count != 0 {
-        return Some(run_lines(rt, &mut buffer[..start + count], held));
+        let next = run_lines(rt, &mut buffer[..start + count], held);
+        return ControlFlow::Continue(next);
     }
     if start != 0 {
         run_line(rt, &buffer[..start]);
     }
-    None
+    ControlFlow::Break(())
 }
 
-// Nothing says that the input ends, so the loop has a last turn, which no run comes to.
+// The count is a bound by which the loop ends by itself, and no run comes to it: nothing says that the input ends, and a loop without
+// a bound would want `Wait`, which no function of the project has.
 pub(crate) fn serve(rt: &impl Print, input: &mut impl Read) {
     let mut buffer = [0u8; LINE];
-    let mut held = Held::Start(0);
+    let mut held = Some(0);
     for _ in 0..u64::MAX {
-        let Some(next) = turn(rt, input, &mut buffer, held) else {
+        let ControlFlow::Continue(next) = turn(rt, input, &mut buffer, held) else {
             break;
         };
         held = next;
