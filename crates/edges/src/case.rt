@@ -1,6 +1,6 @@
 // One cycle from a ready state, and what came of it.
 use cycle::{Event, FetchAnswer, State};
-use frame::ROW_WIDTH;
+use frame::{Frame, PubdataCost, ROW_WIDTH};
 use refusal::Refusal;
 use rules::kinds::Operation;
 use rules::{Location, Record};
@@ -9,10 +9,8 @@ use u256::U256;
 
 const LIMIT: u32 = 4;
 
-// Where a row has its ergs and its pubdata.
-const ERGS: usize = 20;
-
-const PUBDATA: usize = 32;
+// The words of a store for it. The cast makes a length: `From` makes no usize of a u32.
+const STORE: usize = LIMIT as usize * ROW_WIDTH;
 
 // Depth 1, in a far frame. All that is not set is 0 or no.
 #[derive(Clone, Copy)]
@@ -22,7 +20,7 @@ pub(crate) struct Case {
     pub multiplier: u32,
     pub code: U256,
     // of the frame below
-    pub caller_pubdata: u32,
+    pub caller_pubdata: i32,
 }
 
 // A finished cycle.
@@ -44,7 +42,10 @@ impl Case {
     pub(crate) fn new(operation: Operation) -> Case {
         Case {
             state: stepper::start_state(0, 0),
-            plain: stepper::instruction(operation as u8, 0, 0, 0, 0, 0, 0, 0, 0, 0, false),
+            plain: Record {
+                operation: operation as u8,
+                ..Record::default()
+            },
             multiplier: 1,
             code: U256::default(),
             caller_pubdata: 0,
@@ -52,8 +53,13 @@ impl Case {
     }
 
     pub(crate) fn run(self) -> Result<Came, Refusal> {
-        let mut store = [0u32; LIMIT as usize * ROW_WIDTH];
-        store[PUBDATA] = self.caller_pubdata;
+        // nothing is allocated
+        let mut store = [0u32; STORE];
+        let below = Frame {
+            total_pubdata_spent: PubdataCost(self.caller_pubdata),
+            ..Frame::default()
+        };
+        frame::save_frame(&mut store, 0, below)?;
         let input = Input {
             code: self.code,
             source: U256::default(),
@@ -63,7 +69,8 @@ impl Case {
         };
         let cycled = stepper::cycle(self.state, input, &mut store);
         let done = cycled.answer.map_err(|refused| refused.refusal)?;
-        Ok(came_of(cycled.state, done, store[ROW_WIDTH + ERGS]))
+        let caller = frame::read_frame(&store, 1)?;
+        Ok(came_of(cycled.state, done, caller.ergs_remaining))
     }
 }
 

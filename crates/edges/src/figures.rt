@@ -1,6 +1,6 @@
 // The edges of document 01, in its order: those marked P, then the others.
 use crate::case::{Came, Case};
-use crate::shown::{Frames, Index};
+use crate::shown::{Frames, Index, Kind};
 use frame::PubdataCost;
 use rules::kinds::{OperandKind, Operation, ReturnKind};
 use u256::U256;
@@ -136,14 +136,15 @@ fn fetched(rt: &impl Print, pc: u16) {
 }
 
 // A return of this kind from a local frame with so much pubdata.
-fn returned(rt: &impl Print, kind: ReturnKind, caller: u32, counter: i32, child: i32) {
+fn returned(rt: &impl Print, kind: ReturnKind, caller: i32, counter: i32, child: i32) {
     let mut case = Case::new(Operation::Ret);
     case.plain.return_kind = kind as u8;
     case.state.current.is_local_frame = true;
     case.state.current.total_pubdata_spent = PubdataCost(child);
     case.state.pubdata_revert_counter = PubdataCost(counter);
     case.caller_pubdata = caller;
-    let _ = print!(rt; "{kind}, caller pubdata {caller}, counter {counter}, child pubdata {child}");
+    let name = Kind(kind);
+    let _ = print!(rt; "{name}, caller pubdata {caller}, counter {counter}, child pubdata {child}");
     let Some(came) = run(rt, case) else {
         return;
     };

@@ -190,6 +190,7 @@ fn show(rt: &impl Print, listed: &[u8]) {
 }
 
 fn variant(rt: &impl Print, name: &str, input: &[u8]) {
+    // nothing is allocated
     let mut buffer = [0u8; ROOM];
     let size = listing::listing(input, &mut buffer);
     let _ = print!(rt; "{name}: ");
@@ -202,7 +203,7 @@ pub(crate) fn table(rt: &impl Print) {
     }
 }
 
-// Its ergs are a 1 after so many zeros that it is a byte longer than is taken.
+// Its ergs are a 1 after so many zeros that it is a byte longer than is taken. An array, as nothing is allocated.
 fn too_long() -> [u8; TOO_LONG] {
     let mut input = [b'0'; TOO_LONG];
     input[..11].copy_from_slice(b"ergs limit\n");
