@@ -40,14 +40,17 @@ lines_cut (b ∷ bs) h = go (eqb b 10) bs (lines_cut bs)
 -- the first line, from what stands up to and with the first line end, or is all
 module _ (bytes : List ℕ) (line : Bor (List ℕ)) (others : List ℕ) {i : ℕ} (parts : bytes ≡ line.now ++ others) (long : length line.now ≡ min (i + 1) (length bytes))
     (first : IsFirstMatchOrLen (λ b. eqb b 10) bytes i) where
+  -- where the first line ends
   end_is : line_end bytes ≡ min i (length bytes)
   end_is =
       position_or_len_is (λ b. eqb b 10) bytes (min i (length bytes)) 0 (omega arith) (λ k l. first.0 k 0 (omega arith) (omega arith))
       (λ l. let e : min i (length bytes) ≡ i = omega arith in rw e (first.1 (omega arith) 0))
 
+  -- what was taken off stands in front
   front : take (length line.now) bytes ≡ line.now
   front = ap (take (length line.now)) parts ∙ take_at line.now others (length line.now) refl
 
+  -- and ends with a line end, if there is one
   ended : i < length bytes → line.now ≡ take i bytes ++ (10 ∷ [])
   ended l =
       let n : length line.now ≡ suc i = omega arith in
@@ -57,6 +60,7 @@ module _ (bytes : List ℕ) (line : Bor (List ℕ)) (others : List ℕ) {i : ℕ
   module _ (cut : Option (Bor (List ℕ)))
       (strip : MatchOption cut (bytes_eq (drop (length line.now - 1) line.now) (10 ∷ []) ≡ false)
       (λ x. (bytes_eq (drop (length line.now - 1) line.now) (10 ∷ []) ≡ true) × (x.now ≡ take (length line.now - 1) line.now) × (length x.now + 1 ≡ length line.now))) where
+    -- without that it is the first line
     stripped : (unwrap_or cut line).now ≡ take (line_end bytes) bytes
     stripped = go cut (strip_suffix_is Decides-eqb line.now (10 ∷ []) cut strip) (dec_lt i (length bytes))
       where
@@ -75,6 +79,7 @@ module _ (bytes : List ℕ) (line : Bor (List ℕ)) (others : List ℕ) {i : ℕ
             let clash : eqb 10 10 ≡ false = rw ten at other in
             absurd cc
 
+    -- the lines are this one, and those of what is left
     pub lines_step : 0 < length bytes → lines_of bytes ≡ (unwrap_or cut line).now ∷ lines_of (take (length bytes - length line.now) (drop (length line.now) bytes))
     lines_step h =
         let n : length line.now ≡ min (line_end bytes + 1) (length bytes) = omega (arith, end_is) in
