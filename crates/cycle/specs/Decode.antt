@@ -1,7 +1,7 @@
 -- Decode. Document 01: "Price is 0 when ended. Price above ergs: ergs become 0 and NOT_ENOUGH_ERGS is set." "Some flag set: the panic record is kept.
 -- Otherwise condition false: the nop record. The delayed changes show from here. The answer gives the flags and the charge." Demand 3: "A charge is the smaller of
 -- the price and the ergs held."
-use Rattle.std.specs.Prelude.{ℕ, ◌-◌, min, false, cond, List, [], ◌∷◌, Ok, Err}
+use Rattle.std.specs.Prelude.{ℕ, ◌-◌, min, false, cond, List, [], ◌∷◌, None, Ok, Err, is_some, unwrap_or}
 use Rattle.refusal.specs.Refusal.{first_of, ◌refuses◌, numbered_refusal}
 use Rattle.frame.specs.Fields.{with_ergs}
 use Rattle.rules.specs.declared.Settings.{Settings}
@@ -9,7 +9,6 @@ use Rattle.rules.specs.declared.Record.{Record}
 use Rattle.rules.specs.declared.Records.{Records}
 use Rattle.rules.specs.declared.ErrorFlags.{ErrorFlags}
 use Rattle.rules.specs.declared.Location.{Location}
-use Rattle.registers.specs.Registers.{empty_word}
 use Rattle.rules.specs.Code.{super_pc}
 use Rattle.rules.specs.Record.{bad_records}
 use Rattle.rules.specs.Charge.{price_of, error_flags, any_error}
@@ -48,8 +47,8 @@ unfoldable pub decoded_state : State → ℕ → Record → State
 decoded_state s ergs instruction = record {
   registers = s.registers;
   current = with_ergs s.current ergs;
-  previous_code_word = cond s.has_word s.fetched_word s.previous_code_word;
-  fetched_word = empty_word;
+  previous_code_word = unwrap_or s.fetched_word s.previous_code_word;
+  fetched_word = None;
   kept = record { instruction = instruction; write = Location.None };
   flags = s.flags;
   previous_code_memory_page = s.current.code_page;
@@ -57,10 +56,9 @@ decoded_state s ergs instruction = record {
   monotonic_cycle_counter = s.monotonic_cycle_counter;
   depth = s.depth;
   pubdata_revert_counter = s.pubdata_revert_counter;
-  previous_super_pc = cond s.has_word (super_pc s.current.pc) s.previous_super_pc;
+  previous_super_pc = cond (is_some s.fetched_word) (super_pc s.current.pc) s.previous_super_pc;
   pointers = s.pointers;
   stage = decoded;
-  has_word = false;
   pending_exception = false;
 }
 

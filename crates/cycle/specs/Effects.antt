@@ -55,7 +55,6 @@ finished_state s time counter = record {
   previous_super_pc = s.previous_super_pc;
   pointers = s.pointers;
   stage = ready;
-  has_word = s.has_word;
   pending_exception = s.pending_exception;
 }
 
@@ -76,7 +75,6 @@ moved_state s pc = record {
   previous_super_pc = s.previous_super_pc;
   pointers = s.pointers;
   stage = s.stage;
-  has_word = s.has_word;
   pending_exception = s.pending_exception;
 }
 
@@ -97,7 +95,6 @@ written_state s flags n word = record {
   previous_super_pc = s.previous_super_pc;
   pointers = update_of false s.pointers n false;
   stage = s.stage;
-  has_word = s.has_word;
   pending_exception = s.pending_exception;
 }
 
@@ -118,6 +115,5 @@ switched_state s f depth flags counter = record {
   previous_super_pc = s.previous_super_pc;
   pointers = s.pointers;
   stage = s.stage;
-  has_word = s.has_word;
   pending_exception = s.pending_exception;
 }

@@ -1,11 +1,11 @@
 -- Fetch. Document 01: "A query says whether a code read is wanted, and from which page and index: page or super pc changed, and not ended. It reads the state alone
 -- and never refuses. Fetch takes that word, not looked at when none was wanted." "The answer is 64 bits of code, or exception (pending), or nop (ended)."
-use Rattle.std.specs.Prelude.{ℕ, Bool, cond, ◌&&◌, List, [], ◌∷◌, Ok, Err}
+use Rattle.std.specs.Prelude.{ℕ, Bool, cond, ◌&&◌, List, [], ◌∷◌, Option, Ok, Err, unwrap_or}
+use Rattle.std.specs.Bool.{then_some}
 use Rattle.u256.specs.declared.U256.{U256}
 use Rattle.refusal.specs.Refusal.{first_of, ◌refuses◌, numbered_refusal}
 use Rattle.rules.specs.declared.Settings.{Settings}
 use Rattle.rules.specs.declared.Location.{Location}
-use Rattle.registers.specs.Registers.{empty_word}
 use Rattle.rules.specs.Code.{super_pc, sub_pc, code_bits}
 use Rattle.rules.specs.Code as code
 use Rattle.rules.specs.Address.{in_code}
@@ -33,17 +33,21 @@ abbrev pub fetch_refusal : Settings → State → List ℕ → ℕ
 fetch_refusal settings s store =
     first_of ((bad_store settings s store refuses 1) ∷ (out_of_turn ready s refuses 2) ∷ ((is_ended s && s.pending_exception) refuses 4) ∷ [])
 
+-- the word given, where one is wanted
+abbrev pub word_read : State → U256 → Option U256
+word_read s word = then_some (code_wanted s) word
+
 -- the code word that pc points into: the one read, or the previous one
 abbrev pub code_word : State → U256 → U256
-code_word s word = cond (code_wanted s) word s.previous_code_word
+code_word s word = unwrap_or (word_read s word) s.previous_code_word
 
--- the state keeps the word until decode
-unfoldable pub fetched_state : State → Bool → U256 → State
-fetched_state s wanted word = record {
+-- the state keeps the word read until decode
+unfoldable pub fetched_state : State → Option U256 → State
+fetched_state s read = record {
   registers = s.registers;
   current = s.current;
   previous_code_word = s.previous_code_word;
-  fetched_word = word;
+  fetched_word = read;
   kept = s.kept;
   flags = s.flags;
   previous_code_memory_page = s.previous_code_memory_page;
@@ -54,13 +58,12 @@ fetched_state s wanted word = record {
   previous_super_pc = s.previous_super_pc;
   pointers = s.pointers;
   stage = fetched;
-  has_word = wanted;
   pending_exception = s.pending_exception;
 }
 
 unfoldable pub fetch_done : State → U256 → Fetched
 fetch_done s word = record {
-  state = fetched_state s (code_wanted s) (cond (code_wanted s) word empty_word);
+  state = fetched_state s (word_read s word);
   answer = Ok (code_answer (is_ended s) s.pending_exception (code_bits (code_word s word) (sub_pc s.current.pc)));
 }
 

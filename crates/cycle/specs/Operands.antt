@@ -49,7 +49,6 @@ addressed_state s sp write = record {
   previous_super_pc = s.previous_super_pc;
   pointers = s.pointers;
   stage = addressed;
-  has_word = s.has_word;
   pending_exception = s.pending_exception;
 }
 

@@ -1,6 +1,5 @@
 // Decode, from the Rust's `read_and_decode`.
-ghost use Rattle.std.specs.Prelude.{◌≡◌, ◌-◌, ◌≤◌, min, false, cond};
-ghost use Rattle.rules.specs.Code.{super_pc};
+ghost use Rattle.std.specs.Prelude.{◌≡◌, ◌-◌, ◌≤◌, min, false};
 ghost use Rattle.cycle.specs.Decode.{decoded_state, decode_refusal, decode_of};
 ghost use Rattle.refusal.specs.Refusal.{refusal_number};
 ghost use Rattle.cycle.specs.Answers.{decode_case};
@@ -35,27 +34,16 @@ fn pay(flagged: bool, price: u32, held: u32) -> Paid
     }
 }
 
-fn super_pc_or(has_word: bool, pc: u16, previous: u16) -> u16
-    ensures { result ≡ cond has_word (super_pc pc) previous }
-{
-    if has_word {
-        fetch::super_pc(pc)
-    } else {
-        previous
-    }
-}
-
 impl State {
     // The delayed changes show from here, with the ergs and the kept record.
     #[tactic(auto, unfolding(crate::specs::Decode::decoded_state, frame::specs::Fields::with_ergs))]
     fn decoded(self, ergs: u32, instruction: Record) -> State
         ensures { result ≡ decoded_state self ergs instruction }
     {
-        let read = self.fetched_word;
-        let previous = self.previous_code_word;
-        let word = registers::either_word(self.has_word, read, previous);
-        let super_pc = super_pc_or(self.has_word, self.current.pc, self.previous_super_pc);
-        let none = registers::empty_word();
+        let (word, super_pc) = match self.fetched_word {
+            Some(word) => (word, fetch::super_pc(self.current.pc)),
+            None => (self.previous_code_word, self.previous_super_pc),
+        };
         let page = self.current.code_page;
         let kept = Kept {
             instruction,
@@ -67,8 +55,7 @@ impl State {
         next.previous_super_pc = super_pc;
         next.previous_code_memory_page = page;
         next.pending_exception = false;
-        next.fetched_word = none;
-        next.has_word = false;
+        next.fetched_word = None;
         next.kept = kept;
         next.stage = Stage::Operands as u8;
         next

@@ -39,12 +39,11 @@ fn code_answer(ended: bool, pending: bool, bits: u64) -> FetchAnswer
 
 impl State {
     #[tactic(auto, unfolding(crate::specs::Fetch::fetched_state))]
-    fn fetched(self, wanted: bool, word: U256) -> State
-        ensures { result ≡ fetched_state self wanted word }
+    fn fetched(self, read: Option<U256>) -> State
+        ensures { result ≡ fetched_state self read }
     {
         let mut next = self.apart();
-        next.fetched_word = word;
-        next.has_word = wanted;
+        next.fetched_word = read;
         next.stage = Stage::Decode as u8;
         next
     }
@@ -96,13 +95,9 @@ impl State {
             fetch::super_pc(pc),
             self.previous_super_pc,
         );
-        let bits = fetch::code_bits(
-            registers::either_word(wanted, word, previous),
-            fetch::sub_pc(pc),
-        );
-        let none = registers::empty_word();
-        let read = registers::either_word(wanted, word, none);
-        let next = self.fetched(wanted, read);
+        let read = wanted.then_some(word);
+        let bits = fetch::code_bits(read.unwrap_or(previous), fetch::sub_pc(pc));
+        let next = self.fetched(read);
         Fetched {
             state: next,
             answer: Ok(code_answer(ended, pending, bits)),

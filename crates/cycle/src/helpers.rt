@@ -78,7 +78,6 @@ impl State {
         let depth = self.depth;
         let previous_super_pc = self.previous_super_pc;
         let stage = self.stage;
-        let has_word = self.has_word;
         let pending_exception = self.pending_exception;
         let current = f.apart();
         let apart = Flags {
@@ -94,7 +93,6 @@ impl State {
         self.depth = depth;
         self.previous_super_pc = previous_super_pc;
         self.stage = stage;
-        self.has_word = has_word;
         self.pending_exception = pending_exception;
         self
     }

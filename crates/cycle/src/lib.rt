@@ -38,8 +38,8 @@ pub struct State {
     pub registers: [U256; 15],
     pub current: Frame,
     pub previous_code_word: U256,
-    // the word that fetch read, where has_word says so
-    pub fetched_word: U256,
+    // the word that fetch read, if it read one
+    pub fetched_word: Option<U256>,
     pub kept: Kept,
     pub flags: Flags,
     pub previous_code_memory_page: u32,
@@ -51,7 +51,6 @@ pub struct State {
     pub pointers: [bool; 15],
     // the number of the stage that comes next; a number, since a state with any other has to be answered too
     pub stage: u8,
-    pub has_word: bool,
     pub pending_exception: bool,
 }
 

@@ -66,7 +66,6 @@ requested_state s want = record {
   previous_super_pc = s.previous_super_pc;
   pointers = s.pointers;
   stage = s.stage;
-  has_word = s.has_word;
   pending_exception = s.pending_exception;
 }
 

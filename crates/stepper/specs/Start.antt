@@ -1,7 +1,7 @@
 -- States and records that are 0 but for what is given: the start of nearbook's listing and the edges. Document 01: "multiplier 1, time step 4"; "It starts at depth 1
 -- in a far frame, an ergs-free frame below. All of the state, records and words that no line sets is 0 or no, but for the masked records' operations and a call's
 -- register."
-use Rattle.std.specs.Prelude.{ℕ, ◌*◌, Bool, false, List, pos, replicate}
+use Rattle.std.specs.Prelude.{ℕ, ◌*◌, Bool, false, List, None, pos, replicate}
 use Rattle.u256.specs.declared.U256.{U256}
 use Rattle.frame.specs.declared.Address.{Address}
 use Rattle.frame.specs.declared.Frame.{Frame}
@@ -73,7 +73,7 @@ state_at stage registers ergs sp kept = record {
   registers = registers;
   current = far_frame ergs sp;
   previous_code_word = empty_word;
-  fetched_word = empty_word;
+  fetched_word = None;
   kept = record { instruction = kept; write = Location.None };
   flags = no_flags;
   previous_code_memory_page = 0;
@@ -84,7 +84,6 @@ state_at stage registers ergs sp kept = record {
   previous_super_pc = 0;
   pointers = replicate 15 false;
   stage = stage;
-  has_word = false;
   pending_exception = false;
 }
 

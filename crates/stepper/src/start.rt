@@ -89,7 +89,7 @@ pub fn start_state(ergs: u32, sp: u16) -> State
         registers: [none; 15],
         current,
         previous_code_word: none,
-        fetched_word: none,
+        fetched_word: None,
         kept,
         flags: Flags::default(),
         previous_code_memory_page: 0,
@@ -100,7 +100,6 @@ pub fn start_state(ergs: u32, sp: u16) -> State
         previous_super_pc: 0,
         pointers: [false; 15],
         stage: Stage::Fetch as u8,
-        has_word: false,
         pending_exception: false,
     }
 }
