@@ -1,9 +1,10 @@
 -- A stage's outcome is a refusal that changes nothing, or finished with what the stage does. Assumes nothing.
 use Prim.Native.Nat.{ℕ}
 use mathlib.Core.Bool.{Bool, true, false, cond}
-use mathlib.Core.Path.{◌≡◌, refl}
+use mathlib.Core.Path.{◌≡◌, refl, ap}
 use mathlib.Core.Logic.{◌⊎◌, inl, inr}
 use mathlib.Core.List.{List, [], ◌∷◌}
+use mathlib.Core.Option.{some}
 use lib.Dec.{T, eqb}
 use native.Mathlib.Omega.{arith}
 use borrow.Author.Tests.{eqb-true, eqb-false}
@@ -13,11 +14,13 @@ use Rattle.refusal.specs.Refusal.{Check, first_of, paper_number, numbered_refusa
 use Rattle.refusal.proofs.NumberLaws
 use Rattle.refusal.proofs.NumberLaws.{is_told, first_in}
 pub use Rattle.refusal.proofs.NumberLaws.{numbers_in}
+use Rattle.rules.proofs.RefusalLaws.{Clear, numbered, clear}
 use Rattle.cycle.specs.declared.State.{State}
-use Rattle.cycle.specs.State.{settled}
+use Rattle.cycle.specs.declared.Staged.{Staged}
+use Rattle.cycle.specs.State.{refused_with, settled}
 use Rattle.lists.specs.Machine.{Outcome, finished}
 use Rattle.lists.specs.Laws.{Unchanged}
-use Rattle.calls.specs.Core.{core}
+use Rattle.calls.specs.Core.{core, outcome_in}
 use Rattle.calls.specs.Answers.{is_one_of, Refuses}
 
 pub data View (numbers : List ℕ) (s : State) (store : List ℕ) (o : Outcome State) (Done : Type 0) : Type 0 where
@@ -73,3 +76,25 @@ listed cs ms t h = widen (first_of cs) (numbers_in cs) ms t (rw one_in (first_in
 -- the refusal of a number has it
 pub told_back : (n : ℕ) (ms : List ℕ) → T (list_all is_told ms) → is_one_of n ms ≡ true → paper_number (numbered_refusal n) ≡ n
 told_back n ms t e = NumberLaws.told_back n ms t (rw one_in at e)
+
+-- ---- a stage, or an operation of execute, with these numbers
+module _ (numbers : List ℕ) (t : T (list_all is_told numbers)) (s : State) (store : List ℕ) where
+  -- what a refusal gives, whatever is answered otherwise
+  abbrev refusing : ℕ → Outcome State
+  refusing n = outcome_in (refused_with {A = Unit {0}} s n) store
+
+  -- it refuses with one of them
+  pub unchanged : {Done : Type 0} (n : ℕ) → is_one_of n numbers ≡ true → View numbers s store (refusing n) Done
+  unchanged n m = refused (record { number = n; told = ap some (told_back n numbers t m); listed = m; unchanged = record { state_same = refl; store_same = refl } })
+
+  -- by its checks
+  pub checked : {Done : Type 0} (cs : List Check) → T (within (numbers_in cs) numbers) → (first_of cs ≡ 0 → ⊥) → View numbers s store (refusing (first_of cs)) Done
+  checked cs w h = unchanged (first_of cs) (listed cs numbers w h)
+
+  -- it finishes where none of its checks holds
+  pub by_checks : {A : Type 0} (Done : Outcome State → Type 0) (cs : List Check) → T (numbered cs) → T (within (numbers_in cs) numbers)
+      → (finish : Staged A) → finished (outcome_in finish store) ≡ true → (Clear cs → Done (outcome_in finish store))
+      → View numbers s store (outcome_in (settled (first_of cs) (refused_with s) finish) store) (Done (outcome_in (settled (first_of cs) (refused_with s) finish) store))
+  by_checks Done cs n w finish e f =
+      by_number (λ r. View numbers s store (outcome_in r store) (Done (outcome_in r store))) (first_of cs) (refused_with s) finish
+      (λ z. done e (f (clear cs n z))) (checked cs w)

@@ -1,8 +1,8 @@
 -- Where operands gave no source location, execute does not look at the word. Assumes nothing.
 use Prim.Native.Nat.{ℕ, zero, suc, ◌≤◌}
-use mathlib.Core.Bool.{Bool, true, false, not, cond}
+use mathlib.Core.Bool.{Bool, true, false, cond}
 use mathlib.Core.Path.{◌≡◌, refl, ap}
-use mathlib.Core.List.{List, [], ◌∷◌}
+use mathlib.Core.List.{List}
 use native.Mathlib.Omega.{arith}
 use lib.Dec.{eqb}
 use borrow.Author.Tests.{not-false}
@@ -10,7 +10,6 @@ use Rattle.u256.specs.declared.U256.{U256}
 use Rattle.std.specs.Prelude.{Result, Ok, Err}
 use Rattle.refusal.specs.declared.Refusal.{Refusal}
 use Rattle.cycle.specs.declared.OperandsAnswer.{OperandsAnswer}
-use Rattle.refusal.specs.Refusal.{Check, ◌refuses◌, numbered_refusal}
 use Rattle.rules.specs.declared.Settings.{Settings}
 use Rattle.rules.specs.declared.Record.{Record}
 use Rattle.rules.specs.declared.Location.{Location}
@@ -18,12 +17,12 @@ use Rattle.rules.specs.declared.PrimitiveValue.{PrimitiveValue}
 use Rattle.rules.specs.declared.Sources.{Sources}
 use Rattle.rules.specs.Record.{good_record, is_nop}
 use Rattle.rules.proofs.RecordLaws.{good_source}
-use Rattle.rules.specs.Address.{lacks_stack_page, source_read, source_at, places_of}
+use Rattle.rules.specs.Address.{source_read, source_at, places_of}
 use Rattle.rules.specs.Sources.{register_value, sources_of}
 use Rattle.rules.proofs.RefusalLaws.{clear}
 use Rattle.cycle.specs.declared.State.{State}
-use Rattle.cycle.specs.State.{bad_store, out_of_turn, decoded}
-use Rattle.cycle.specs.Operands.{record_of, stack_page, places_in, operands_refusal, addressed_state, operands_done, operands_of}
+use Rattle.cycle.specs.State.{refused_with}
+use Rattle.cycle.specs.Operands.{record_of, stack_page, places_in, operands_checks, operands_refusal, addressed_state, operands_done, operands_of}
 use Rattle.cycle.specs.Execute.{sources_in, execute_done, execute_of, execute_store}
 use Rattle.calls.specs.SourceWord.{ExecutesAlike, WordUnread}
 use Rattle.calls.proofs.Views.{by_number}
@@ -68,20 +67,12 @@ pub word_unread : WordUnread
 unfolding operands_of operands_done addressed_state
 word_unread settings s store destination given later after word other pointer bit =
     by_number (λ r. r.answer ≡ Ok (record { source = Location.None; destination = destination }) → ExecutesAlike later r.state after word other pointer bit)
-    (operands_refusal settings s store) (λ n. record { state = s; answer = Err (numbered_refusal n) }) (operands_done 16 s)
+    (operands_refusal settings s store) (refused_with s) (operands_done 16 s)
     (λ z e.
-    let c = clear checks tt z in
+    let c = clear (operands_checks settings s store) tt z in
     let none : (places_in 16 s).source ≡ Location.None = ap told e in
     alike later (operands_done 16 s).state after word other pointer bit
     (sources_same (record_of s) s.registers s.pointers 16 (stack_page s) s.current.code_page s.current.sp word other pointer bit
     (not-false (good_record (record_of s)) c.1.1.0) none))
     (λ h e. absurd (cc))
     given
-  where
-    checks : List Check
-    checks =
-        (bad_store settings s store refuses 1)
-        ∷ (out_of_turn decoded s refuses 2)
-        ∷ (not (good_record (record_of s)) refuses 3)
-        ∷ (lacks_stack_page (record_of s) s.current.base_memory_page refuses 14)
-        ∷ []

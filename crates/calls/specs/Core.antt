@@ -9,6 +9,7 @@ use Rattle.frame.specs.Row.{row_width, frame_of}
 use Rattle.rules.specs.declared.Settings.{Settings}
 use Rattle.rules.specs.declared.Records.{Records}
 use Rattle.cycle.specs.declared.State.{State}
+use Rattle.cycle.specs.declared.Staged.{Staged}
 use Rattle.cycle.specs.Fetch.{fetch_of}
 use Rattle.cycle.specs.Decode.{decode_of, kept_of}
 use Rattle.cycle.specs.Operands.{operands_of}
@@ -35,34 +36,22 @@ pub record ExecuteInput : Type 0 where
   pub word : U256
   pub pointer : Bool
 
+-- what a stage gives, with the store after it
+abbrev pub outcome_in : {A : Type 0} → Staged A → List ℕ → machines.Outcome State
+outcome_in r after = record { refusal = refused_by r.answer; state = r.state; store = after }
+
 -- fetch, decode and operands leave the store as it is
 abbrev pub fetch_outcome : FetchInput → State → List ℕ → machines.Outcome State
-fetch_outcome x s store = record {
-  refusal = refused_by (fetch_of x.settings x.word s store).answer;
-  state = (fetch_of x.settings x.word s store).state;
-  store = store;
-}
+fetch_outcome x s store = outcome_in (fetch_of x.settings x.word s store) store
 
 abbrev pub decode_outcome : DecodeInput → State → List ℕ → machines.Outcome State
-decode_outcome x s store = record {
-  refusal = refused_by (decode_of x.settings x.records s store).answer;
-  state = (decode_of x.settings x.records s store).state;
-  store = store;
-}
+decode_outcome x s store = outcome_in (decode_of x.settings x.records s store) store
 
 abbrev pub operands_outcome : Settings → State → List ℕ → machines.Outcome State
-operands_outcome settings s store = record {
-  refusal = refused_by (operands_of settings s store).answer;
-  state = (operands_of settings s store).state;
-  store = store;
-}
+operands_outcome settings s store = outcome_in (operands_of settings s store) store
 
 abbrev pub execute_outcome : ExecuteInput → State → List ℕ → machines.Outcome State
-execute_outcome x s store = record {
-  refusal = refused_by (execute_of x.settings x.word x.pointer s store).answer;
-  state = (execute_of x.settings x.word x.pointer s store).state;
-  store = execute_store x.settings x.word x.pointer s store;
-}
+execute_outcome x s store = outcome_in (execute_of x.settings x.word x.pointer s store) (execute_store x.settings x.word x.pointer s store)
 
 -- stages 0 to 3; at any other number every call is refused
 abbrev pub stage_of : ℕ → machines.Stage

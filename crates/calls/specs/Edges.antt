@@ -10,12 +10,10 @@ use Rattle.registers.specs.Registers.{empty_word, register_of}
 use Rattle.rules.specs.declared.Flags.{Flags}
 use Rattle.rules.specs.Charge.{any_error}
 use Rattle.cycle.specs.declared.State.{State}
-use Rattle.cycle.specs.declared.Decoded.{Decoded}
+use Rattle.cycle.specs.declared.Staged.{Staged}
 use Rattle.cycle.specs.declared.DecodeAnswer.{DecodeAnswer}
-use Rattle.cycle.specs.declared.Addressed.{Addressed}
 use Rattle.cycle.specs.declared.OperandsAnswer.{OperandsAnswer}
 use Rattle.cycle.specs.declared.Event.{Event}
-use Rattle.cycle.specs.declared.Executed.{Executed}
 use Rattle.cycle.specs.declared.ExecuteAnswer.{ExecuteAnswer}
 use Rattle.cycle.specs.Effects.{moved_state, no_record}
 use Rattle.cycle.specs.Fetch.{query_of, fetch_of}
@@ -44,7 +42,7 @@ figures s (Err refusal) = paper_number refusal ∷ []
 abbrev pub decodes : ℕ → ℕ → List ℕ
 decodes ergs price = figures after.state after.answer
   where
-    after : Decoded
+    after : Staged DecodeAnswer
     after =
         decode_of (settings_of 4 1) (records_of (instruction 1 0 0 0 0 0 0 0 0 price false)) (state_at 1 (replicate 15 empty_word) ergs 0 no_record)
         (empty_store 4)
@@ -66,7 +64,7 @@ calls multiplier held want =
     s : State
     s = state_at 3 (one_word want ∷ replicate 14 empty_word) held 0 (instruction 3 0 0 0 1 0 0 0 0 0 false)
 
-    after : Executed
+    after : Staged ExecuteAnswer
     after = execute_of (settings_of 4 multiplier) empty_word false s (empty_store 4)
 
 -- operands of these kinds (2 is push/pop) with these immediates, at this sp: the source and the destination, each 0 for none or 1, memory kind, page and index,
@@ -78,7 +76,7 @@ places s (Err refusal) = paper_number refusal ∷ []
 abbrev pub addresses : ℕ → ℕ → ℕ → ℕ → ℕ → List ℕ
 addresses source destination imm0 imm1 sp = places after.state after.answer
   where
-    after : Addressed
+    after : Staged OperandsAnswer
     after = operands_of (settings_of 4 1) (state_at 2 (replicate 15 empty_word) 0 sp (instruction 1 0 source destination 0 0 0 imm0 imm1 0 false)) (empty_store 4)
 
 -- an operation (1 add, 2 sub) of registers 1 and 2 into register 3, with set flags: the result, then overflow, equal, greater

@@ -5,6 +5,7 @@ use mir.Val.{bool_byte}
 use Rattle.u256.specs.declared.U256.{U256}
 use Rattle.u256.specs.U256.{value_of}
 use Rattle.std.specs.Prelude.{Ok, Err}
+use Rattle.frame.specs.declared.Frame.{Frame}
 use Rattle.frame.specs.declared.RowError.{RowError}
 use Rattle.refusal.specs.Refusal.{Check, first_of, ◌refuses◌, paper_number, numbered_refusal, refusal_number}
 use Rattle.refusal.proofs.NumberLaws.{number_first}
@@ -14,22 +15,23 @@ use Rattle.rules.specs.declared.Settings.{Settings}
 use Rattle.rules.specs.declared.Location.{Location}
 use Rattle.rules.specs.Record.{good_record}
 use Rattle.rules.proofs.RecordLaws.{good_operation}
-use Rattle.rules.specs.Ret.{ergs_past, is_shrunk}
+use Rattle.rules.specs.Ret.{pubdata_after, counter_after, is_outside, is_bad_counter, ergs_past, is_shrunk}
 use Rattle.cycle.specs.declared.State.{State}
-use Rattle.cycle.specs.declared.Executed.{Executed}
-use Rattle.cycle.specs.State.{addressed, is_ended, bad_store, out_of_turn, settled}
+use Rattle.cycle.specs.declared.Staged.{Staged}
+use Rattle.cycle.specs.declared.ExecuteAnswer.{ExecuteAnswer}
+use Rattle.cycle.specs.State.{addressed, is_ended, bad_store, out_of_turn, refused_with, settled}
 use Rattle.cycle.specs.Operands.{record_of}
-use Rattle.cycle.specs.Helpers.{late_in, refused_with, is_stored, write_of, nop_done, nop_of}
-use Rattle.cycle.specs.NearCall.{near_call_done, near_call_of}
-use Rattle.cycle.specs.Ret.{is_ok, return_refusal, close_refusal_in, close_done, close_of, return_to, return_of}
+use Rattle.cycle.specs.Helpers.{late_in, is_stored, write_of, nop_checks, nop_done, nop_of}
+use Rattle.cycle.specs.NearCall.{call_checks, near_call_done, near_call_of}
+use Rattle.cycle.specs.Ret.{is_ok, return_checks, return_refusal, close_refusal_in, close_done, close_of, return_to, return_of}
 use Rattle.cycle.specs.Arithmetic.{result_in, arithmetic_done, arithmetic_of}
-use Rattle.cycle.specs.Execute.{sources_in, pointer_in, execute_refusal_in, want_in, execute_done, execute_of, execute_store}
+use Rattle.cycle.specs.Execute.{sources_in, pointer_in, own_checks_in, execute_refusal_in, want_in, execute_done, execute_of, execute_store}
 use Rattle.cycle.specs.Answers.{location_case, write_case, execute_case}
 use Rattle.cycle.specs.Answers.{top_row, top_frame, bad_pubdata, bad_reverts, late_write, execute_checks}
 use Rattle.cycle.specs.Tells.{write_tells, event_tells, execute_tells}
 
 -- an answer with this number, which tells this where the number is 0
-record Answers (r : Executed) (n : ℕ) (write event : List ℕ) : Type 0 where
+record Answers (r : Staged ExecuteAnswer) (n : ℕ) (write event : List ℕ) : Type 0 where
   pub number : refusal_number r.answer ≡ n
   pub told : execute_case r.answer ≡ cond (eqb n 0) (write ∷ event ∷ []) []
 
@@ -38,7 +40,7 @@ abbrev Numbered : ℕ → Type 0
 Numbered k = (k ≡ 0 → ⊥) → paper_number (numbered_refusal k) ≡ k
 
 -- by the first checks, k, and then by those after them, n
-settled_answers : (s : State) (k n m : ℕ) (done : Executed) (write event : List ℕ) → Numbered k → m ≡ cond (eqb k 0) n k → (k ≡ 0 → Answers done n write event)
+settled_answers : (s : State) (k n m : ℕ) (done : Staged ExecuteAnswer) (write event : List ℕ) → Numbered k → m ≡ cond (eqb k 0) n k → (k ≡ 0 → Answers done n write event)
     → Answers (settled k (refused_with s) done) m write event
 settled_answers s k n m done write event same e h = rw e (go (eqb k 0) refl)
   where
@@ -46,7 +48,7 @@ settled_answers s k n m done write event same e h = rw e (go (eqb k 0) refl)
     go true q = h (eqb-true k 0 q)
     go false q = record { number = same (eqb-false k 0 q); told = rw q }
 
-done_answers : (s : State) (k : ℕ) (done : Executed) (write event : List ℕ) → Numbered k → refusal_number done.answer ≡ 0
+done_answers : (s : State) (k : ℕ) (done : Staged ExecuteAnswer) (write event : List ℕ) → Numbered k → refusal_number done.answer ≡ 0
     → execute_case done.answer ≡ write ∷ event ∷ []
     → Answers (settled k (refused_with s) done) k write event
 done_answers s k done write event same d t = settled_answers s k 0 k done write event same (grind arith) (λ z. record { number = d; told = t })
@@ -69,6 +71,16 @@ has_row : (limit depth words : ℕ) → (eqb limit 0 || ltb (words / row_width) 
     → ltb (depth - 1) (words / row_width) ≡ true
 has_row limit depth words e n = grind arith
 
+-- the checks of a return to this caller
+abbrev pub close_checks : Settings → Frame → State → List Check
+close_checks settings caller s =
+    (is_outside (pubdata_after (is_ok s) caller.total_pubdata_spent.0 s.current.total_pubdata_spent.0) refuses 10)
+    ∷ (is_bad_counter (counter_after (is_ok s) s.pubdata_revert_counter.0 s.current.total_pubdata_spent.0) refuses 11)
+    ∷ (ergs_past caller.ergs_remaining s.current.ergs_remaining refuses 12)
+    ∷ (is_shrunk caller s.current refuses 13)
+    ∷ (late_in settings s refuses 14)
+    ∷ []
+
 module _ (settings : Settings) (word : U256) (pointer : Bool) (s : State) (store : List ℕ) where
   -- the checks of some operations
   abbrev rest : Bool → Bool → Bool → List Check
@@ -85,7 +97,7 @@ module _ (settings : Settings) (word : U256) (pointer : Bool) (s : State) (store
 
   nop_answers : Answers (nop_of settings s) (first_of (rest false false false)) nothing nothing
   unfolding nop_of nop_done
-  nop_answers = done_answers s _ _ nothing nothing (number_first ((late_in settings s refuses 14) ∷ []) tt) refl refl
+  nop_answers = done_answers s _ _ nothing nothing (number_first (nop_checks settings s) tt) refl refl
 
   -- what add and sub write
   abbrev sum_write : U256 → U256 → List ℕ
@@ -105,7 +117,7 @@ module _ (settings : Settings) (word : U256) (pointer : Bool) (s : State) (store
   call_answers : (want : ℕ) → Answers (near_call_of settings want s) (first_of (rest false true false)) nothing (1 ∷ [])
   unfolding near_call_of near_call_done
   call_answers want =
-      done_answers s _ _ nothing (1 ∷ []) (number_first ((eqb s.depth settings.depth_limit refuses 9) ∷ (late_in settings s refuses 14) ∷ []) tt) refl refl
+      done_answers s _ _ nothing (1 ∷ []) (number_first (call_checks (eqb s.depth settings.depth_limit) (late_in settings s)) tt) refl refl
 
   -- what a return tells
   abbrev closing : List ℕ
@@ -113,16 +125,7 @@ module _ (settings : Settings) (word : U256) (pointer : Bool) (s : State) (store
 
   close_answers : Answers (close_of settings (top_frame s store) s) (close_refusal_in settings (top_frame s store) s) nothing closing
   unfolding close_of close_done
-  close_answers = done_answers s _ _ nothing closing (number_first checks tt) refl refl
-    where
-      checks : List Check
-      checks =
-          (bad_pubdata s store refuses 10)
-          ∷ (bad_reverts s refuses 11)
-          ∷ (ergs_past (top_frame s store).ergs_remaining s.current.ergs_remaining refuses 12)
-          ∷ (is_shrunk (top_frame s store) s.current refuses 13)
-          ∷ (late_in settings s refuses 14)
-          ∷ []
+  close_answers = done_answers s _ _ nothing closing (number_first (close_checks settings (top_frame s store) s) tt) refl refl
 
   -- by whether the top row is good
   read_answers : ltb (s.depth - 1) (whole_rows store) ≡ true
@@ -141,7 +144,7 @@ module _ (settings : Settings) (word : U256) (pointer : Bool) (s : State) (store
   unfolding return_of
   return_answers sized =
       settled_answers s (return_refusal s.current.is_local_frame s.depth) _ _ _ nothing closing
-      (number_first ((not s.current.is_local_frame refuses 7) ∷ (is_ended s refuses 8) ∷ []) tt) (grind arith)
+      (number_first (return_checks s.current.is_local_frame s.depth) tt) (grind arith)
       (λ z. read_answers (has_row settings.depth_limit s.depth (length store) sized (grind arith)))
 
   abbrev a : U256
@@ -173,27 +176,18 @@ module _ (settings : Settings) (word : U256) (pointer : Bool) (s : State) (store
       (first_of (execute_checks settings word pointer s store)) (write_tells word pointer s) (event_tells s)
   unfolding execute_of execute_done
   execute_answers =
-      settled_answers s (execute_refusal_in settings word pointer s store) _ _ _ _ _ (number_first checks tt)
+      settled_answers s (execute_refusal_in settings word pointer s store) _ _ _ _ _ (number_first (own_checks_in settings word pointer s store) tt)
       (parts (bad_store settings s store) (out_of_turn addressed s) (not (good_record (record_of s))) (eqb (record_of s).operation 5) (pointer_in word pointer s) _)
       (λ z. chosen (grind arith) (record_of s).operation (grind (arith, good_operation (record_of s))))
-    where
-      checks : List Check
-      checks =
-          (bad_store settings s store refuses 1)
-          ∷ (out_of_turn addressed s refuses 2)
-          ∷ (not (good_record (record_of s)) refuses 3)
-          ∷ (eqb (record_of s).operation 5 refuses 5)
-          ∷ (pointer_in word pointer s refuses 6)
-          ∷ []
 
   -- what execute ensures
-  abbrev pub Ensured : Executed → List ℕ → Type 0
+  abbrev pub Ensured : Staged ExecuteAnswer → List ℕ → Type 0
   Ensured r after =
       (r ≡ execute_of settings word pointer s store)
       × (after ≡ execute_store settings word pointer s store)
       × (refusal_number r.answer ≡ first_of (execute_checks settings word pointer s store))
       × (execute_case r.answer ≡ execute_tells settings word pointer s store)
 
-  pub ensured : (r : Executed) (after : List ℕ) → r ≡ execute_of settings word pointer s store → after ≡ execute_store settings word pointer s store
+  pub ensured : (r : Staged ExecuteAnswer) (after : List ℕ) → r ≡ execute_of settings word pointer s store → after ≡ execute_store settings word pointer s store
       → Ensured r after
   ensured r after e f = (e, f, rw e execute_answers.number, rw e execute_answers.told)

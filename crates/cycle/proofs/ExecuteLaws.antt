@@ -11,7 +11,8 @@ use Rattle.rules.specs.declared.Sources.{Sources}
 use Rattle.rules.specs.Record.{good_record}
 use Rattle.rules.specs.Sources.{pointer_refused}
 use Rattle.cycle.specs.declared.State.{State}
-use Rattle.cycle.specs.declared.Executed.{Executed}
+use Rattle.cycle.specs.declared.Staged.{Staged}
+use Rattle.cycle.specs.declared.ExecuteAnswer.{ExecuteAnswer}
 use Rattle.cycle.specs.State.{bad_store}
 use Rattle.cycle.specs.Operands.{record_of}
 use Rattle.cycle.specs.Helpers.{nop_of}
@@ -64,14 +65,14 @@ module _ (settings : Settings) (word : U256) (pointer : Bool) (s : State) (store
   pub refused : some_holds ≡ true → (q : Refusal)
       → q
       ≡ cond sizes Refusal.Sizes (cond (not (eqb s.stage 3)) Refusal.Turn (cond (not good) Refusal.Record (cond (eqb (record_of s).operation 5) Refusal.Operation Refusal.Pointer)))
-      → (r : Executed) → r ≡ record { state = s; answer = Err q } → Ensured settings word pointer s store r store
+      → (r : Staged ExecuteAnswer) → r ≡ record { state = s; answer = Err q } → Ensured settings word pointer s store r store
   unfolding execute_of execute_store
   refused t q eq r e =
       let k = some sizes (not (eqb s.stage 3)) (not good) (eqb (record_of s).operation 5) held t in
       ensured settings word pointer s store r store (rw (← es, ← ez, ← eg, ← ek, ← eh, k.1, ← k.0, ← eq) e) (rw (← es, ← ez, ← eg, ← ek, ← eh, k.1))
 
   -- by the tests
-  pub done : some_holds ≡ false → (nop sum call : Bool) → Tests (record_of s).operation nop sum call → (r : Executed) (after : List ℕ)
+  pub done : some_holds ≡ false → (nop sum call : Bool) → Tests (record_of s).operation nop sum call → (r : Staged ExecuteAnswer) (after : List ℕ)
       → r
       ≡ cond nop (nop_of settings s)
       (cond sum (arithmetic_of settings sources.src0.value sources.src1.value s)

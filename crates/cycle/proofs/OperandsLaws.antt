@@ -4,15 +4,17 @@ use Rattle.std.specs.Prelude.{Err}
 use Rattle.rules.specs.declared.Settings.{Settings}
 use Rattle.rules.specs.Record.{good_record}
 use Rattle.refusal.specs.declared.Refusal.{Refusal}
-use Rattle.refusal.specs.Refusal.{paper_number, numbered_refusal}
+use Rattle.refusal.specs.Refusal.{paper_number, numbered_refusal, refusal_number}
 use Rattle.u256.specs.declared.U256.{U256}
 use Rattle.rules.specs.declared.Record.{Record}
 use Rattle.rules.specs.Address.{lacks_stack_page, source_at, destination_at, places_of}
 use Rattle.rules.proofs.AddressLaws.{places_page}
 use Rattle.cycle.specs.declared.State.{State}
+use Rattle.cycle.specs.declared.Staged.{Staged}
+use Rattle.cycle.specs.declared.OperandsAnswer.{OperandsAnswer}
 use Rattle.cycle.specs.State.{bad_store}
 use Rattle.cycle.specs.Operands.{record_of, places_in, operands_refusal, operands_of}
-use Rattle.cycle.specs.Answers.{location_case}
+use Rattle.cycle.specs.Answers.{location_case, operands_case}
 use Rattle.cycle.specs.Tells.{source_tells, destination_tells, operands_tells}
 
 -- a stack page that is looked at has 32 bits
@@ -39,9 +41,9 @@ first false false false false t = absurd (cc)
 pub refused : (settings : Settings) (s : State) (store : List ℕ) (sizes : Bool) → sizes ≡ bad_store settings s store → (good : Bool) → good ≡ good_record (record_of s)
     → (lacking : Bool) → lacking ≡ lacks_stack_page (record_of s) s.current.base_memory_page → (sizes || not (eqb s.stage 2) || not good || lacking) ≡ true
     → (q : Refusal) → q ≡ cond sizes Refusal.Sizes (cond (not (eqb s.stage 2)) Refusal.Turn (cond (not good) Refusal.Record Refusal.Above32Bits))
-    → (kept : State) → kept ≡ s
-    → (record { state = kept; answer = Err q } ≡ operands_of settings s store) × (paper_number q ≡ operands_refusal settings s store) × ([] ≡ operands_tells settings s store)
+    → (kept : State) → kept ≡ s → (r : Staged OperandsAnswer) → r ≡ record { state = kept; answer = Err q }
+    → (r ≡ operands_of settings s store) × (refusal_number r.answer ≡ operands_refusal settings s store) × (operands_case r.answer ≡ operands_tells settings s store)
 unfolding operands_of
-refused settings s store sizes ez good eg lacking el t q eq kept ek =
+refused settings s store sizes ez good eg lacking el t q eq kept ek r er =
     let k = first sizes (not (eqb s.stage 2)) (not good) lacking t in
-    rw (← ez, ← eg, ← el, k.2, ek, eq) (ap (λ (r : Refusal). record { state = s; answer = Err r }) k.0, k.1, refl)
+    rw (er, ← ez, ← eg, ← el, k.2, ek, eq) (ap (λ (r : Refusal). record { state = s; answer = Err r }) k.0, k.1, refl)

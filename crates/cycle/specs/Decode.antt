@@ -1,8 +1,8 @@
 -- Decode. Document 01: "Price is 0 when ended. Price above ergs: ergs become 0 and NOT_ENOUGH_ERGS is set." "Some flag set: the panic record is kept.
 -- Otherwise condition false: the nop record. The delayed changes show from here. The answer gives the flags and the charge." Demand 3: "A charge is the smaller of
 -- the price and the ergs held."
-use Rattle.std.specs.Prelude.{ℕ, ◌-◌, min, false, cond, List, [], ◌∷◌, None, Ok, Err, is_some, unwrap_or}
-use Rattle.refusal.specs.Refusal.{first_of, ◌refuses◌, numbered_refusal}
+use Rattle.std.specs.Prelude.{ℕ, ◌-◌, min, false, cond, List, [], ◌∷◌, None, Ok, is_some, unwrap_or}
+use Rattle.refusal.specs.Refusal.{Check, first_of, ◌refuses◌}
 use Rattle.frame.specs.Fields.{with_ergs}
 use Rattle.rules.specs.declared.Settings.{Settings}
 use Rattle.rules.specs.declared.Record.{Record}
@@ -14,8 +14,9 @@ use Rattle.rules.specs.Record.{bad_records}
 use Rattle.rules.specs.Charge.{price_of, error_flags, any_error}
 use Rattle.rules.specs.Condition.{condition_holds}
 use Rattle.cycle.specs.declared.State.{State}
-use Rattle.cycle.specs.declared.Decoded.{Decoded}
-use Rattle.cycle.specs.State.{fetched, decoded, is_ended, bad_store, out_of_turn, settled}
+use Rattle.cycle.specs.declared.Staged.{Staged}
+use Rattle.cycle.specs.declared.DecodeAnswer.{DecodeAnswer}
+use Rattle.cycle.specs.State.{fetched, decoded, is_ended, bad_store, out_of_turn, refused_with, settled}
 
 -- the flags that the plain record sets
 abbrev pub errors_of : Settings → Records → State → ErrorFlags
@@ -34,13 +35,15 @@ kept_of settings records s =
     cond (any_error (errors_of settings records s)) records.panic
     (cond (condition_holds records.plain.condition s.flags) records.plain records.nop)
 
-abbrev pub decode_refusal : Settings → Records → State → List ℕ → ℕ
-decode_refusal settings records s store =
-    first_of
-    ((bad_store settings s store refuses 1)
+abbrev pub decode_checks : Settings → Records → State → List ℕ → List Check
+decode_checks settings records s store =
+    (bad_store settings s store refuses 1)
     ∷ (out_of_turn fetched s refuses 2)
     ∷ (bad_records records (is_ended s) s.pending_exception (any_error (errors_of settings records s)) refuses 3)
-    ∷ [])
+    ∷ []
+
+abbrev pub decode_refusal : Settings → Records → State → List ℕ → ℕ
+decode_refusal settings records s store = first_of (decode_checks settings records s store)
 
 -- the delayed changes: the word that fetch read, if any, and its super pc; the code page; no exception pending. Then the ergs and the kept record.
 unfoldable pub decoded_state : State → ℕ → Record → State
@@ -62,12 +65,12 @@ decoded_state s ergs instruction = record {
   pending_exception = false;
 }
 
-unfoldable pub decode_done : Settings → Records → State → Decoded
+unfoldable pub decode_done : Settings → Records → State → Staged DecodeAnswer
 decode_done settings records s = record {
   state = decoded_state s (s.current.ergs_remaining - price_in records s) (kept_of settings records s);
   answer = Ok (record { charge = charge_in records s; errors = errors_of settings records s });
 }
 
-unfoldable pub decode_of : Settings → Records → State → List ℕ → Decoded
+unfoldable pub decode_of : Settings → Records → State → List ℕ → Staged DecodeAnswer
 decode_of settings records s store =
-    settled (decode_refusal settings records s store) (λ n. record { state = s; answer = Err (numbered_refusal n) }) (decode_done settings records s)
+    settled (decode_refusal settings records s store) (refused_with s) (decode_done settings records s)

@@ -4,16 +4,17 @@ use Rattle.std.specs.Prelude.{ℕ, Bool, cond, not, ◌||◌, List, [], ◌∷�
 use Rattle.u256.specs.declared.U256.{U256}
 use Rattle.u256.specs.U256.{low_of}
 use Rattle.frame.specs.Kernel.{kernel_mode}
-use Rattle.refusal.specs.Refusal.{first_of, ◌refuses◌}
+use Rattle.refusal.specs.Refusal.{Check, first_of, ◌refuses◌}
 use Rattle.rules.specs.declared.Settings.{Settings}
 use Rattle.rules.specs.declared.Sources.{Sources}
 use Rattle.rules.specs.Record.{good_record}
 use Rattle.rules.specs.Sources.{sources_of, pointer_refused}
 use Rattle.cycle.specs.declared.State.{State}
-use Rattle.cycle.specs.declared.Executed.{Executed}
-use Rattle.cycle.specs.State.{addressed, bad_store, out_of_turn, settled}
+use Rattle.cycle.specs.declared.Staged.{Staged}
+use Rattle.cycle.specs.declared.ExecuteAnswer.{ExecuteAnswer}
+use Rattle.cycle.specs.State.{addressed, bad_store, out_of_turn, refused_with, settled}
 use Rattle.cycle.specs.Operands.{record_of}
-use Rattle.cycle.specs.Helpers.{refused_with, nop_of}
+use Rattle.cycle.specs.Helpers.{nop_of}
 use Rattle.cycle.specs.NearCall.{near_call_of, near_call_store}
 use Rattle.cycle.specs.Ret.{return_of}
 use Rattle.cycle.specs.Arithmetic.{arithmetic_of}
@@ -26,20 +27,26 @@ abbrev pub pointer_in : U256 → Bool → State → Bool
 pointer_in word pointer s =
     pointer_refused (kernel_mode s.current) (record_of s) (sources_in word pointer s).src0.is_pointer (sources_in word pointer s).src1.is_pointer
 
+-- execute's own checks; those of the operations come after them
+abbrev pub own_checks : Bool → Bool → Bool → Bool → Bool → List Check
+own_checks sizes turn bad other pointer = (sizes refuses 1) ∷ (turn refuses 2) ∷ (bad refuses 3) ∷ (other refuses 5) ∷ (pointer refuses 6) ∷ []
+
 abbrev pub execute_refusal : Bool → Bool → Bool → Bool → Bool → ℕ
-execute_refusal sizes turn bad other pointer =
-    first_of ((sizes refuses 1) ∷ (turn refuses 2) ∷ (bad refuses 3) ∷ (other refuses 5) ∷ (pointer refuses 6) ∷ [])
+execute_refusal sizes turn bad other pointer = first_of (own_checks sizes turn bad other pointer)
+
+abbrev pub own_checks_in : Settings → U256 → Bool → State → List ℕ → List Check
+own_checks_in settings word pointer s store =
+    own_checks (bad_store settings s store) (out_of_turn addressed s) (not (good_record (record_of s))) ((record_of s).operation == 5)
+    (pointer_in word pointer s)
 
 abbrev pub execute_refusal_in : Settings → U256 → Bool → State → List ℕ → ℕ
-execute_refusal_in settings word pointer s store =
-    execute_refusal (bad_store settings s store) (out_of_turn addressed s) (not (good_record (record_of s))) ((record_of s).operation == 5)
-    (pointer_in word pointer s)
+execute_refusal_in settings word pointer s store = first_of (own_checks_in settings word pointer s store)
 
 -- what a near call requests: "the low 32 bits of src0"
 abbrev pub want_in : U256 → Bool → State → ℕ
 want_in word pointer s = low_of 32 (sources_in word pointer s).src0.value
 
-unfoldable pub execute_done : Settings → U256 → Bool → State → List ℕ → Executed
+unfoldable pub execute_done : Settings → U256 → Bool → State → List ℕ → Staged ExecuteAnswer
 execute_done settings word pointer s store =
     cond ((record_of s).operation == 0) (nop_of settings s)
     (cond ((record_of s).operation == 1 || (record_of s).operation == 2)
@@ -47,7 +54,7 @@ execute_done settings word pointer s store =
     (cond ((record_of s).operation == 3) (near_call_of settings (want_in word pointer s) s)
     (return_of settings s store)))
 
-unfoldable pub execute_of : Settings → U256 → Bool → State → List ℕ → Executed
+unfoldable pub execute_of : Settings → U256 → Bool → State → List ℕ → Staged ExecuteAnswer
 execute_of settings word pointer s store =
     settled (execute_refusal_in settings word pointer s store) (refused_with s) (execute_done settings word pointer s store)
 

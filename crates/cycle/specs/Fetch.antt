@@ -1,18 +1,18 @@
 -- Fetch. Document 01: "A query says whether a code read is wanted, and from which page and index: page or super pc changed, and not ended. It reads the state alone
 -- and never refuses. Fetch takes that word, not looked at when none was wanted." "The answer is 64 bits of code, or exception (pending), or nop (ended)."
-use Rattle.std.specs.Prelude.{ℕ, Bool, cond, ◌&&◌, List, [], ◌∷◌, Option, Ok, Err, unwrap_or}
+use Rattle.std.specs.Prelude.{ℕ, Bool, cond, ◌&&◌, List, [], ◌∷◌, Option, Ok, unwrap_or}
 use Rattle.std.specs.Bool.{then_some}
 use Rattle.u256.specs.declared.U256.{U256}
-use Rattle.refusal.specs.Refusal.{first_of, ◌refuses◌, numbered_refusal}
+use Rattle.refusal.specs.Refusal.{Check, first_of, ◌refuses◌}
 use Rattle.rules.specs.declared.Settings.{Settings}
 use Rattle.rules.specs.declared.Location.{Location}
 use Rattle.rules.specs.Code.{super_pc, sub_pc, code_bits}
 use Rattle.rules.specs.Code as code
 use Rattle.rules.specs.Address.{in_code}
 use Rattle.cycle.specs.declared.State.{State}
-use Rattle.cycle.specs.declared.Fetched.{Fetched}
+use Rattle.cycle.specs.declared.Staged.{Staged}
 use Rattle.cycle.specs.declared.FetchAnswer.{FetchAnswer}
-use Rattle.cycle.specs.State.{ready, fetched, is_ended, bad_store, out_of_turn, settled}
+use Rattle.cycle.specs.State.{ready, fetched, is_ended, bad_store, out_of_turn, refused_with, settled}
 
 abbrev pub code_wanted : State → Bool
 code_wanted s =
@@ -29,9 +29,12 @@ abbrev pub code_answer : Bool → Bool → ℕ → FetchAnswer
 code_answer ended pending bits = cond ended FetchAnswer.Nop (cond pending FetchAnswer.Exception (FetchAnswer.Code bits))
 
 -- refusal 4, "ended and pending"
+abbrev pub fetch_checks : Settings → State → List ℕ → List Check
+fetch_checks settings s store =
+    (bad_store settings s store refuses 1) ∷ (out_of_turn ready s refuses 2) ∷ ((is_ended s && s.pending_exception) refuses 4) ∷ []
+
 abbrev pub fetch_refusal : Settings → State → List ℕ → ℕ
-fetch_refusal settings s store =
-    first_of ((bad_store settings s store refuses 1) ∷ (out_of_turn ready s refuses 2) ∷ ((is_ended s && s.pending_exception) refuses 4) ∷ [])
+fetch_refusal settings s store = first_of (fetch_checks settings s store)
 
 -- the word given, where one is wanted
 abbrev pub word_read : State → U256 → Option U256
@@ -61,12 +64,12 @@ fetched_state s read = record {
   pending_exception = s.pending_exception;
 }
 
-unfoldable pub fetch_done : State → U256 → Fetched
+unfoldable pub fetch_done : State → U256 → Staged FetchAnswer
 fetch_done s word = record {
   state = fetched_state s (word_read s word);
   answer = Ok (code_answer (is_ended s) s.pending_exception (code_bits (code_word s word) (sub_pc s.current.pc)));
 }
 
-unfoldable pub fetch_of : Settings → U256 → State → List ℕ → Fetched
+unfoldable pub fetch_of : Settings → U256 → State → List ℕ → Staged FetchAnswer
 fetch_of settings word s store =
-    settled (fetch_refusal settings s store) (λ n. record { state = s; answer = Err (numbered_refusal n) }) (fetch_done s word)
+    settled (fetch_refusal settings s store) (refused_with s) (fetch_done s word)

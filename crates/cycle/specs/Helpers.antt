@@ -1,14 +1,15 @@
 -- What the operations of execute share, and nop. Document 01: "Nop sets pc only (from the specification)"; "A write carries time plus 3."
-use Rattle.std.specs.Prelude.{ℕ, ◌+◌, Bool, true, false, [], ◌∷◌, Option, None, Some, Ok, Err}
-use Rattle.refusal.specs.Refusal.{first_of, ◌refuses◌, numbered_refusal}
+use Rattle.std.specs.Prelude.{ℕ, ◌+◌, Bool, true, false, List, [], ◌∷◌, Option, None, Some, Ok}
+use Rattle.refusal.specs.Refusal.{Check, first_of, ◌refuses◌}
 use Rattle.rules.specs.declared.Settings.{Settings}
 use Rattle.rules.specs.declared.Location.{Location}
 use Rattle.rules.specs.declared.PrimitiveValue.{PrimitiveValue}
 use Rattle.rules.specs.Time.{next_pc, time_after, is_late}
 use Rattle.cycle.specs.declared.State.{State}
 use Rattle.cycle.specs.declared.Write.{Write}
-use Rattle.cycle.specs.declared.Executed.{Executed}
-use Rattle.cycle.specs.State.{is_ended, settled}
+use Rattle.cycle.specs.declared.Staged.{Staged}
+use Rattle.cycle.specs.declared.ExecuteAnswer.{ExecuteAnswer}
+use Rattle.cycle.specs.State.{is_ended, refused_with, settled}
 use Rattle.cycle.specs.Effects.{finished_state, moved_state}
 
 -- refusal 14 of every operation
@@ -19,9 +20,6 @@ late_in settings s = is_late s.timestamp settings.time_step s.monotonic_cycle_co
 abbrev pub finished_in : Settings → State → State
 finished_in settings s = finished_state s (time_after s.timestamp settings.time_step (is_ended s)) (s.monotonic_cycle_counter + 1)
 
-abbrev pub refused_with : State → ℕ → Executed
-refused_with s n = record { state = s; answer = Err (numbered_refusal n) }
-
 abbrev pub is_stored : Location → Bool
 is_stored Location.None = false
 is_stored (Location.At kind page index) = true
@@ -30,14 +28,17 @@ abbrev pub write_of : Location → ℕ → PrimitiveValue → Option Write
 write_of Location.None time value = None
 write_of (Location.At kind page index) time value = Some (record { memory_type = kind; page = page; index = index; time = time + 3; value = value })
 
-unfoldable pub nop_done : Settings → State → Executed
+unfoldable pub nop_done : Settings → State → Staged ExecuteAnswer
 nop_done settings s = record {
   state = moved_state (finished_in settings s) (next_pc 16 s.current.pc (is_ended s));
   answer = Ok (record { write = None; event = None });
 }
 
-abbrev pub nop_refusal : Settings → State → ℕ
-nop_refusal settings s = first_of ((late_in settings s refuses 14) ∷ [])
+abbrev pub nop_checks : Settings → State → List Check
+nop_checks settings s = (late_in settings s refuses 14) ∷ []
 
-unfoldable pub nop_of : Settings → State → Executed
+abbrev pub nop_refusal : Settings → State → ℕ
+nop_refusal settings s = first_of (nop_checks settings s)
+
+unfoldable pub nop_of : Settings → State → Staged ExecuteAnswer
 nop_of settings s = settled (nop_refusal settings s) (refused_with s) (nop_done settings s)

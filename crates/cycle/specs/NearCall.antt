@@ -2,20 +2,24 @@
 -- first free row, the flags are cleared.
 use Rattle.std.specs.Prelude.{ℕ, ◌+◌, ◌-◌, Bool, cond, List, [], ◌∷◌, None, Some, Ok, ◌==◌}
 use Rattle.frame.specs.declared.Frame.{Frame}
-use Rattle.refusal.specs.Refusal.{first_of, ◌refuses◌}
+use Rattle.refusal.specs.Refusal.{Check, first_of, ◌refuses◌}
 use Rattle.frame.specs.Store.{saved_store}
 use Rattle.rules.specs.declared.Settings.{Settings}
 use Rattle.rules.specs.NearCall.{wanted_ergs, passed_ergs, caller_of, opened_of}
 use Rattle.rules.specs.Time.{next_pc}
 use Rattle.cycle.specs.declared.State.{State}
 use Rattle.cycle.specs.declared.Event.{Event}
-use Rattle.cycle.specs.declared.Executed.{Executed}
-use Rattle.cycle.specs.State.{is_ended, settled}
+use Rattle.cycle.specs.declared.Staged.{Staged}
+use Rattle.cycle.specs.declared.ExecuteAnswer.{ExecuteAnswer}
+use Rattle.cycle.specs.State.{is_ended, refused_with, settled}
 use Rattle.cycle.specs.Effects.{no_flags, switched_state}
-use Rattle.cycle.specs.Helpers.{late_in, finished_in, refused_with}
+use Rattle.cycle.specs.Helpers.{late_in, finished_in}
+
+abbrev pub call_checks : Bool → Bool → List Check
+call_checks full late = (full refuses 9) ∷ (late refuses 14) ∷ []
 
 abbrev pub call_refusal : Bool → Bool → ℕ
-call_refusal full late = first_of ((full refuses 9) ∷ (late refuses 14) ∷ [])
+call_refusal full late = first_of (call_checks full late)
 
 abbrev pub call_refusal_in : Settings → State → ℕ
 call_refusal_in settings s = call_refusal (s.depth == settings.depth_limit) (late_in settings s)
@@ -29,7 +33,7 @@ abbrev pub caller_in : Settings → ℕ → State → Frame
 caller_in settings want s =
     caller_of s.current (s.current.ergs_remaining - passed_in settings want s) (next_pc 16 s.current.pc (is_ended s))
 
-unfoldable pub near_call_done : Settings → ℕ → State → Executed
+unfoldable pub near_call_done : Settings → ℕ → State → Staged ExecuteAnswer
 near_call_done settings want s = record {
   state =
       switched_state (finished_in settings s)
@@ -40,7 +44,7 @@ near_call_done settings want s = record {
   answer = Ok (record { write = None; event = Some Event.Opened });
 }
 
-unfoldable pub near_call_of : Settings → ℕ → State → Executed
+unfoldable pub near_call_of : Settings → ℕ → State → Staged ExecuteAnswer
 near_call_of settings want s = settled (call_refusal_in settings s) (refused_with s) (near_call_done settings want s)
 
 -- the store afterwards: on a refusal, what was given

@@ -1,7 +1,7 @@
 -- Operands. Document 01: "Source first, then destination on the changed sp." "Stack page is base plus 1. Nop reads nothing but moves sp." The answer is where the
 -- source is read, and where the destination is to be written.
-use Rattle.std.specs.Prelude.{ℕ, ◌+◌, not, List, [], ◌∷◌, Ok, Err}
-use Rattle.refusal.specs.Refusal.{first_of, ◌refuses◌, numbered_refusal}
+use Rattle.std.specs.Prelude.{ℕ, ◌+◌, not, List, [], ◌∷◌, Ok}
+use Rattle.refusal.specs.Refusal.{Check, first_of, ◌refuses◌}
 use Rattle.frame.specs.Fields.{with_sp}
 use Rattle.rules.specs.declared.Settings.{Settings}
 use Rattle.rules.specs.declared.Record.{Record}
@@ -10,8 +10,9 @@ use Rattle.rules.specs.declared.Places.{Places}
 use Rattle.rules.specs.Record.{good_record}
 use Rattle.rules.specs.Address.{lacks_stack_page, places_of}
 use Rattle.cycle.specs.declared.State.{State}
-use Rattle.cycle.specs.declared.Addressed.{Addressed}
-use Rattle.cycle.specs.State.{decoded, addressed, bad_store, out_of_turn, settled}
+use Rattle.cycle.specs.declared.Staged.{Staged}
+use Rattle.cycle.specs.declared.OperandsAnswer.{OperandsAnswer}
+use Rattle.cycle.specs.State.{decoded, addressed, bad_store, out_of_turn, refused_with, settled}
 
 abbrev pub record_of : State → Record
 record_of s = s.kept.instruction
@@ -24,14 +25,16 @@ abbrev pub places_in : ℕ → State → Places
 places_in w s = places_of w (record_of s) s.registers (stack_page s) s.current.code_page s.current.sp
 
 -- refusal 3 is about the kept record; 14 is "page of a stack kind", above 32 bits
-abbrev pub operands_refusal : Settings → State → List ℕ → ℕ
-operands_refusal settings s store =
-    first_of
-    ((bad_store settings s store refuses 1)
+abbrev pub operands_checks : Settings → State → List ℕ → List Check
+operands_checks settings s store =
+    (bad_store settings s store refuses 1)
     ∷ (out_of_turn decoded s refuses 2)
     ∷ (not (good_record (record_of s)) refuses 3)
     ∷ (lacks_stack_page (record_of s) s.current.base_memory_page refuses 14)
-    ∷ [])
+    ∷ []
+
+abbrev pub operands_refusal : Settings → State → List ℕ → ℕ
+operands_refusal settings s store = first_of (operands_checks settings s store)
 
 unfoldable pub addressed_state : State → ℕ → Location → State
 addressed_state s sp write = record {
@@ -52,12 +55,12 @@ addressed_state s sp write = record {
   pending_exception = s.pending_exception;
 }
 
-unfoldable pub operands_done : ℕ → State → Addressed
+unfoldable pub operands_done : ℕ → State → Staged OperandsAnswer
 operands_done w s = record {
   state = addressed_state s (places_in w s).sp (places_in w s).destination;
   answer = Ok (record { source = (places_in w s).source; destination = (places_in w s).destination });
 }
 
-unfoldable pub operands_of : Settings → State → List ℕ → Addressed
+unfoldable pub operands_of : Settings → State → List ℕ → Staged OperandsAnswer
 operands_of settings s store =
-    settled (operands_refusal settings s store) (λ n. record { state = s; answer = Err (numbered_refusal n) }) (operands_done 16 s)
+    settled (operands_refusal settings s store) (refused_with s) (operands_done 16 s)

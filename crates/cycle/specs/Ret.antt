@@ -4,17 +4,18 @@ use Rattle.std.specs.Prelude.{ℕ, ◌+◌, ◌-◌, Bool, false, not, List, [],
 use Rattle.frame.specs.declared.Frame.{Frame}
 use Rattle.frame.specs.declared.PubdataCost.{PubdataCost}
 use Rattle.frame.specs.declared.RowError.{RowError}
-use Rattle.refusal.specs.Refusal.{first_of, ◌refuses◌, paper_number}
+use Rattle.refusal.specs.Refusal.{Check, first_of, ◌refuses◌, paper_number}
 use Rattle.frame.specs.Store.{refusal_of, read_of}
 use Rattle.rules.specs.declared.Settings.{Settings}
 use Rattle.rules.specs.declared.Flags.{Flags}
 use Rattle.rules.specs.Ret.{counter_after, cost_of, close_refusal, resumed_of}
 use Rattle.cycle.specs.declared.State.{State}
 use Rattle.cycle.specs.declared.Event.{Event}
-use Rattle.cycle.specs.declared.Executed.{Executed}
-use Rattle.cycle.specs.State.{settled}
+use Rattle.cycle.specs.declared.Staged.{Staged}
+use Rattle.cycle.specs.declared.ExecuteAnswer.{ExecuteAnswer}
+use Rattle.cycle.specs.State.{refused_with, settled}
 use Rattle.cycle.specs.Effects.{switched_state}
-use Rattle.cycle.specs.Helpers.{late_in, finished_in, refused_with}
+use Rattle.cycle.specs.Helpers.{late_in, finished_in}
 
 -- return kinds 0 ok, 1 revert, 2 panic
 abbrev pub is_ok : State → Bool
@@ -23,8 +24,11 @@ is_ok s = s.kept.instruction.return_kind == 0
 abbrev pub panic_flags : Bool → Flags
 panic_flags panic = record { overflow_or_less_than_flag = panic; equality_flag = false; greater_than_flag = false }
 
+abbrev pub return_checks : Bool → ℕ → List Check
+return_checks local depth = (not local refuses 7) ∷ (nat_eq depth 0 refuses 8) ∷ []
+
 abbrev pub return_refusal : Bool → ℕ → ℕ
-return_refusal local depth = first_of ((not local refuses 7) ∷ (nat_eq depth 0 refuses 8) ∷ [])
+return_refusal local depth = first_of (return_checks local depth)
 
 abbrev pub close_refusal_in : Settings → Frame → State → ℕ
 close_refusal_in settings caller s = close_refusal (is_ok s) caller s.current s.pubdata_revert_counter (late_in settings s)
@@ -33,7 +37,7 @@ close_refusal_in settings caller s = close_refusal (is_ok s) caller s.current s.
 abbrev pub reverts_in : State → PubdataCost
 reverts_in s = cost_of (counter_after (is_ok s) s.pubdata_revert_counter.0 s.current.total_pubdata_spent.0)
 
-unfoldable pub close_done : Settings → Frame → State → Executed
+unfoldable pub close_done : Settings → Frame → State → Staged ExecuteAnswer
 close_done settings caller s = record {
   state =
       switched_state (finished_in settings s)
@@ -44,14 +48,14 @@ close_done settings caller s = record {
   answer = Ok (record { write = None; event = Some (Event.Closed (not (is_ok s))) });
 }
 
-unfoldable pub close_of : Settings → Frame → State → Executed
+unfoldable pub close_of : Settings → Frame → State → Staged ExecuteAnswer
 close_of settings caller s = settled (close_refusal_in settings caller s) (refused_with s) (close_done settings caller s)
 
 -- by what the top row holds
-abbrev pub return_to : Settings → State → Result Frame RowError → Executed
+abbrev pub return_to : Settings → State → Result Frame RowError → Staged ExecuteAnswer
 return_to settings s (Ok caller) = close_of settings caller s
 return_to settings s (Err error) = refused_with s (paper_number (refusal_of error))
 
-unfoldable pub return_of : Settings → State → List ℕ → Executed
+unfoldable pub return_of : Settings → State → List ℕ → Staged ExecuteAnswer
 return_of settings s store =
     settled (return_refusal s.current.is_local_frame s.depth) (refused_with s) (return_to settings s (read_of 16 store (s.depth - 1)))

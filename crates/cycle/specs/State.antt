@@ -1,8 +1,10 @@
 -- The machine state. Document 01: "the stage reached (ready, fetched, decoded, operands)", "execution has ended exactly at depth 0".
-use Rattle.std.specs.Prelude.{ℕ, Bool, cond, not, List, length, ◌==◌}
+use Rattle.std.specs.Prelude.{ℕ, Bool, cond, not, List, length, Err, ◌==◌}
+use Rattle.refusal.specs.Refusal.{numbered_refusal}
 use Rattle.rules.specs.declared.Settings.{Settings}
 use Rattle.rules.specs.Sizes.{bad_sizes}
 use Rattle.cycle.specs.declared.State.{State}
+use Rattle.cycle.specs.declared.Staged.{Staged}
 
 -- the numbers of the stages
 abbrev pub ready : ℕ
@@ -26,6 +28,10 @@ bad_store settings s store = bad_sizes settings.depth_limit s.depth (length stor
 
 abbrev pub out_of_turn : ℕ → State → Bool
 out_of_turn stage s = not (s.stage == stage)
+
+-- a refusal: the state as it was given
+abbrev pub refused_with : {A : Type 0} → State → ℕ → Staged A
+refused_with s n = record { state = s; answer = Err (numbered_refusal n) }
 
 -- 0 is no refusal
 abbrev pub settled : {A : Type 0} → ℕ → (ℕ → A) → A → A

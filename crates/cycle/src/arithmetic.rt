@@ -2,7 +2,7 @@
 ghost use Rattle.std.specs.Prelude.{◌≡◌, ◌+◌, ◌^◌, ◌&&◌, nat_le, if◌then◌else◌};
 ghost use Rattle.cycle.specs.Arithmetic.{arithmetic_of};
 
-use crate::{ExecuteAnswer, Executed, State, helpers};
+use crate::{ExecuteAnswer, Executed, Staged, State, helpers};
 use refusal::Refusal;
 use rules::{PrimitiveValue, Settings, arithmetic, time};
 use u256::U256;
@@ -45,7 +45,7 @@ impl State {
         let write = helpers::write_of(location, self.timestamp, value);
         let moved = self.finish(settings).moved(pc);
         let next = moved.written(flags, register(stored, instruction.dst0), word);
-        Executed {
+        Staged {
             state: next,
             answer: Ok(ExecuteAnswer { write, event: None }),
         }

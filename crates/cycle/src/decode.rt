@@ -5,7 +5,7 @@ ghost use Rattle.refusal.specs.Refusal.{refusal_number};
 ghost use Rattle.cycle.specs.Answers.{decode_case};
 ghost use Rattle.cycle.specs.Tells.{decode_tells};
 
-use crate::{DecodeAnswer, Decoded, Kept, Stage, State};
+use crate::{DecodeAnswer, Decoded, Kept, Stage, Staged, State};
 use refusal::Refusal;
 use rules::{Location, Record, Records, Settings, decode, fetch, parsing, sizes};
 
@@ -83,10 +83,7 @@ impl State {
                 &[(sizes, Refusal::Sizes), (turn, Refusal::Turn)],
                 Refusal::Record,
             );
-            return Decoded {
-                state: self,
-                answer: Err(refusal),
-            };
+            return self.refused(refusal);
         }
         let price = decode::price_of(ended, plain.price);
         let paid = pay(flagged, price, current.ergs_remaining);
@@ -96,7 +93,7 @@ impl State {
             paid.ergs,
             parsing::masked(flagged, holds, plain, panic, nop),
         );
-        Decoded {
+        Staged {
             state: next,
             answer: Ok(DecodeAnswer { charge, errors }),
         }

@@ -5,7 +5,7 @@ ghost use Rattle.refusal.specs.Refusal.{refusal_number};
 ghost use Rattle.cycle.specs.Answers.{fetch_case, location_case};
 ghost use Rattle.cycle.specs.Tells.{query_tells, fetch_tells};
 
-use crate::{FetchAnswer, Fetched, Stage, State};
+use crate::{FetchAnswer, Fetched, Stage, Staged, State};
 use refusal::Refusal;
 use rules::kinds::MemoryType;
 use rules::{Location, Settings, fetch, sizes};
@@ -81,10 +81,7 @@ impl State {
                 &[(sizes, Refusal::Sizes), (turn, Refusal::Turn)],
                 Refusal::EndedPending,
             );
-            return Fetched {
-                state: self,
-                answer: Err(refusal),
-            };
+            return self.refused(refusal);
         }
         let pc = self.current.pc;
         let previous = self.previous_code_word;
@@ -98,7 +95,7 @@ impl State {
         let read = wanted.then_some(word);
         let bits = fetch::code_bits(read.unwrap_or(previous), fetch::sub_pc(pc));
         let next = self.fetched(read);
-        Fetched {
+        Staged {
             state: next,
             answer: Ok(code_answer(ended, pending, bits)),
         }

@@ -2,9 +2,9 @@
 ghost use Rattle.std.specs.Prelude.{◌≡◌, ◌+◌, ◌^◌, ◌<◌, true, false};
 ghost use Rattle.rules.specs.Time.{time_after};
 ghost use Rattle.cycle.specs.Effects.{no_flags, finished_state, moved_state, written_state, switched_state};
-ghost use Rattle.cycle.specs.Helpers.{late_in, finished_in, refused_with, is_stored, write_of, nop_of};
+ghost use Rattle.cycle.specs.Helpers.{late_in, finished_in, is_stored, write_of, nop_of};
 
-use crate::{ExecuteAnswer, Executed, Kept, Stage, State, Write};
+use crate::{ExecuteAnswer, Executed, Kept, Stage, Staged, State, Write};
 use frame::{Frame, PubdataCost};
 use refusal::Refusal;
 use rules::{Flags, Location, PrimitiveValue, Record, Settings, time};
@@ -171,10 +171,10 @@ impl State {
         )
     }
 
-    pub(crate) fn refused(self, refusal: Refusal) -> Executed
+    pub(crate) fn refused<A>(self, refusal: Refusal) -> Staged<A>
         ensures { result ≡ record { state = self; answer = Err refusal } }
     {
-        Executed {
+        Staged {
             state: self,
             answer: Err(refusal),
         }
@@ -200,7 +200,7 @@ impl State {
         }
         let pc = time::next_pc(self.current.pc, self.depth == 0);
         let next = self.finish(settings).moved(pc);
-        Executed {
+        Staged {
             state: next,
             answer: Ok(ExecuteAnswer {
                 write: None,

@@ -63,33 +63,15 @@ pub enum FetchAnswer {
 }
 
 #[derive(Clone, Copy)]
-pub struct Fetched {
-    pub state: State,
-    pub answer: Result<FetchAnswer, Refusal>,
-}
-
-#[derive(Clone, Copy)]
 pub struct DecodeAnswer {
     pub charge: u32,
     pub errors: ErrorFlags,
 }
 
 #[derive(Clone, Copy)]
-pub struct Decoded {
-    pub state: State,
-    pub answer: Result<DecodeAnswer, Refusal>,
-}
-
-#[derive(Clone, Copy)]
 pub struct OperandsAnswer {
     pub source: Location,
     pub destination: Location,
-}
-
-#[derive(Clone, Copy)]
-pub struct Addressed {
-    pub state: State,
-    pub answer: Result<OperandsAnswer, Refusal>,
 }
 
 // What is to be written to memory; the kind is the number that the state's location has.
@@ -115,8 +97,17 @@ pub struct ExecuteAnswer {
     pub event: Option<Event>,
 }
 
+// A stage's state after it, and what it answers.
 #[derive(Clone, Copy)]
-pub struct Executed {
+pub struct Staged<A> {
     pub state: State,
-    pub answer: Result<ExecuteAnswer, Refusal>,
+    pub answer: Result<A, Refusal>,
 }
+
+pub type Fetched = Staged<FetchAnswer>;
+
+pub type Decoded = Staged<DecodeAnswer>;
+
+pub type Addressed = Staged<OperandsAnswer>;
+
+pub type Executed = Staged<ExecuteAnswer>;

@@ -3,7 +3,7 @@ ghost use Rattle.std.specs.Prelude.{◌≡◌, false};
 ghost use Rattle.cycle.specs.State.{bad_store};
 ghost use Rattle.cycle.specs.NearCall.{near_call_of, near_call_store};
 
-use crate::{Event, ExecuteAnswer, Executed, State, helpers};
+use crate::{Event, ExecuteAnswer, Executed, Staged, State, helpers};
 use refusal::Refusal;
 use rules::{Settings, near_call, time};
 
@@ -34,7 +34,7 @@ impl State {
         let reverts = self.pubdata_revert_counter;
         let base = self.finish(settings);
         let next = base.switched(opened, helpers::sum(depth, 1), helpers::no_flags(), reverts);
-        Executed {
+        Staged {
             state: next,
             answer: Ok(ExecuteAnswer {
                 write: None,

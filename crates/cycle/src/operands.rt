@@ -5,7 +5,7 @@ ghost use Rattle.refusal.specs.Refusal.{refusal_number};
 ghost use Rattle.cycle.specs.Answers.{operands_case};
 ghost use Rattle.cycle.specs.Tells.{operands_tells};
 
-use crate::{Addressed, Kept, OperandsAnswer, Stage, State};
+use crate::{Addressed, Kept, OperandsAnswer, Stage, Staged, State};
 use refusal::Refusal;
 use rules::{Location, Settings, mem_ops, parsing, sizes};
 
@@ -47,10 +47,7 @@ impl State {
                 Refusal::Above32Bits,
             );
             // Apart here too: the compiler would else keep sp and pc in one piece, where the records are not known to it.
-            return Addressed {
-                state: self.apart(),
-                answer: Err(refusal),
-            };
+            return self.apart().refused(refusal);
         }
         let registers = self.registers;
         let page = std::num::wrapping_add_u32(base, 1);
@@ -64,7 +61,7 @@ impl State {
         let source = places.source;
         let destination = places.destination;
         let next = self.addressed(places.sp, destination);
-        Addressed {
+        Staged {
             state: next,
             answer: Ok(OperandsAnswer {
                 source,

@@ -2,7 +2,7 @@
 ghost use Rattle.std.specs.Prelude.{◌≡◌};
 ghost use Rattle.cycle.specs.Ret.{panic_flags, close_of, return_of};
 
-use crate::{Event, ExecuteAnswer, Executed, State, helpers};
+use crate::{Event, ExecuteAnswer, Executed, Staged, State, helpers};
 use frame::Frame;
 use refusal::Refusal;
 use rules::kinds::ReturnKind;
@@ -43,7 +43,7 @@ impl State {
         let next = self
             .finish(settings)
             .switched(resumed, depth, flags, counter);
-        Executed {
+        Staged {
             state: next,
             answer: Ok(ExecuteAnswer {
                 write: None,

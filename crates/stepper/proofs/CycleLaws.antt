@@ -6,13 +6,10 @@ use Rattle.std.specs.Prelude.{Ok, Err}
 use Rattle.refusal.specs.declared.Refusal.{Refusal}
 use Rattle.rules.specs.declared.Location.{Location}
 use Rattle.cycle.specs.declared.State.{State}
-use Rattle.cycle.specs.declared.Fetched.{Fetched}
+use Rattle.cycle.specs.declared.Staged.{Staged}
 use Rattle.cycle.specs.declared.FetchAnswer.{FetchAnswer}
-use Rattle.cycle.specs.declared.Decoded.{Decoded}
 use Rattle.cycle.specs.declared.DecodeAnswer.{DecodeAnswer}
-use Rattle.cycle.specs.declared.Addressed.{Addressed}
 use Rattle.cycle.specs.declared.OperandsAnswer.{OperandsAnswer}
-use Rattle.cycle.specs.declared.Executed.{Executed}
 use Rattle.cycle.specs.declared.ExecuteAnswer.{ExecuteAnswer}
 use Rattle.cycle.specs.Fetch.{query_of, fetch_of}
 use Rattle.cycle.specs.Decode.{decode_of}
@@ -27,22 +24,22 @@ use Rattle.stepper.specs.Cycle.{refused_at, cycle_of, cycle_store}
 abbrev pub Gives : Input → State → List ℕ → Cycled → List ℕ → Type 0
 Gives input s store r after = (r ≡ cycle_of input s store) × (after ≡ cycle_store input s store)
 
-module _ (input : Input) (s : State) (store : List ℕ) (f : Fetched) (ef : f ≡ fetch_of input.settings input.code s store) where
+module _ (input : Input) (s : State) (store : List ℕ) (f : Staged FetchAnswer) (ef : f ≡ fetch_of input.settings input.code s store) where
   pub fetch_refuses : (n : Refusal) → f.answer ≡ Err n → Gives input s store (refused_at f.state n Stage.Fetch) store
   unfolding cycle_of cycle_store
   fetch_refuses n e = rw (← ef, e) (refl, refl)
 
-  module _ (fetched : FetchAnswer) (z0 : f.answer ≡ Ok fetched) (d : Decoded) (ed : d ≡ decode_of input.settings input.records f.state store) where
+  module _ (fetched : FetchAnswer) (z0 : f.answer ≡ Ok fetched) (d : Staged DecodeAnswer) (ed : d ≡ decode_of input.settings input.records f.state store) where
     pub decode_refuses : (n : Refusal) → d.answer ≡ Err n → Gives input s store (refused_at d.state n Stage.Decode) store
     unfolding cycle_of cycle_store
     decode_refuses n e = rw (← ef, z0, ← ed, e) (refl, refl)
 
-    module _ (decoded : DecodeAnswer) (z1 : d.answer ≡ Ok decoded) (o : Addressed) (eo : o ≡ operands_of input.settings d.state store) where
+    module _ (decoded : DecodeAnswer) (z1 : d.answer ≡ Ok decoded) (o : Staged OperandsAnswer) (eo : o ≡ operands_of input.settings d.state store) where
       pub operands_refuse : (n : Refusal) → o.answer ≡ Err n → Gives input s store (refused_at o.state n Stage.Operands) store
       unfolding cycle_of cycle_store
       operands_refuse n e = rw (← ef, z0, ← ed, z1, ← eo, e) (refl, refl)
 
-      module _ (addressed : OperandsAnswer) (z2 : o.answer ≡ Ok addressed) (x : Executed) (after : List ℕ)
+      module _ (addressed : OperandsAnswer) (z2 : o.answer ≡ Ok addressed) (x : Staged ExecuteAnswer) (after : List ℕ)
           (ex : (x ≡ execute_of input.settings input.source input.pointer o.state store)
           × (after ≡ execute_store input.settings input.source input.pointer o.state store)) where
         pub execute_refuses : (n : Refusal) → x.answer ≡ Err n → Gives input s store (refused_at x.state n Stage.Execute) after

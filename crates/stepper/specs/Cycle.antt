@@ -4,10 +4,10 @@ use Rattle.std.specs.Prelude.{ℕ, Bool, true, false, cond, ◌&&◌, List, Resu
 use Rattle.refusal.specs.declared.Refusal.{Refusal}
 use Rattle.refusal.specs.Refusal.{paper_number}
 use Rattle.cycle.specs.declared.State.{State}
-use Rattle.cycle.specs.declared.Fetched.{Fetched}
-use Rattle.cycle.specs.declared.Decoded.{Decoded}
-use Rattle.cycle.specs.declared.Addressed.{Addressed}
-use Rattle.cycle.specs.declared.Executed.{Executed}
+use Rattle.cycle.specs.declared.Staged.{Staged}
+use Rattle.cycle.specs.declared.FetchAnswer.{FetchAnswer}
+use Rattle.cycle.specs.declared.OperandsAnswer.{OperandsAnswer}
+use Rattle.cycle.specs.declared.ExecuteAnswer.{ExecuteAnswer}
 use Rattle.cycle.specs.declared.DecodeAnswer.{DecodeAnswer}
 use Rattle.cycle.specs.Fetch.{query_of, fetch_of}
 use Rattle.cycle.specs.Decode.{decode_of}
@@ -20,16 +20,16 @@ use Rattle.stepper.specs.declared.CycleRefusal.{CycleRefusal}
 use Rattle.cycle.specs.declared.Stage.{Stage}
 
 -- the stages, each from the state that the one before it handed back
-abbrev pub fetch_in : Input → State → List ℕ → Fetched
+abbrev pub fetch_in : Input → State → List ℕ → Staged FetchAnswer
 fetch_in input s store = fetch_of input.settings input.code s store
 
-abbrev pub decode_in : Input → State → List ℕ → Decoded
+abbrev pub decode_in : Input → State → List ℕ → Staged DecodeAnswer
 decode_in input s store = decode_of input.settings input.records (fetch_in input s store).state store
 
-abbrev pub operands_in : Input → State → List ℕ → Addressed
+abbrev pub operands_in : Input → State → List ℕ → Staged OperandsAnswer
 operands_in input s store = operands_of input.settings (decode_in input s store).state store
 
-abbrev pub execute_in : Input → State → List ℕ → Executed
+abbrev pub execute_in : Input → State → List ℕ → Staged ExecuteAnswer
 execute_in input s store = execute_of input.settings input.source input.pointer (operands_in input s store).state store
 
 -- a cycle that ends with a refusal: the state that was handed back, the refusal and its stage

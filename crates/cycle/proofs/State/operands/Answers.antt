@@ -5,4 +5,4 @@ pub returns-then-sizes-turn : goal.returns-then-sizes-turn
 returns-then-sizes-turn c =
     let a = c.args in
     laws.refused a.settings a.self a.store.now _ c.bad_sizes-sizes.ensures _ c.good_record-bad.ensures _ c.lacks_stack_page-lacking.ensures
-    c.if-sizes-turn.true _ c.first_after-refusal.ensures _ c.apart.ensures
+    c.if-sizes-turn.true _ c.first_after-refusal.ensures _ c.apart.ensures _ c.refused.ensures
