@@ -1,6 +1,7 @@
 -- The number of execute's answer is that of the first check that holds, and what it tells is what document 01 says. Assumes nothing.
-use Rattle.std.proofs.Common.{◌≡◌, ℕ, zero, suc, ◌+◌, ◌-◌, ◌/◌, ◌<◌, Bool, true, false, cond, not, ◌&&◌, ◌||◌, eqb, ltb, List, [], ◌∷◌, ◌++◌, length, refl, arith, eqb-true}
-use Rattle.std.proofs.lemmas.Bool.{eqb-false}
+use Rattle.std.proofs.Common.{◌≡◌, ℕ, zero, suc, ◌+◌, ◌-◌, ◌/◌, ◌<◌, Bool, true, false, cond, not, ◌&&◌, ◌||◌, T, eqb, ltb, List, [], ◌∷◌, ◌++◌, length, refl, arith, eqb-true}
+use Rattle.std.proofs.lemmas.Bool.{cond_both}
+use Rattle.std.proofs.Math.Bool.{or_comm}
 use mir.Val.{bool_byte}
 use Rattle.u256.specs.declared.U256.{U256}
 use Rattle.u256.specs.U256.{value_of}
@@ -8,7 +9,7 @@ use Rattle.std.specs.Prelude.{Ok, Err}
 use Rattle.frame.specs.declared.Frame.{Frame}
 use Rattle.frame.specs.declared.RowError.{RowError}
 use Rattle.refusal.specs.Refusal.{Check, first_of, ◌refuses◌, paper_number, numbered_refusal, refusal_number}
-use Rattle.refusal.proofs.NumberLaws.{number_first}
+use Rattle.refusal.proofs.NumberLaws.{all_numbered, number_first}
 use Rattle.frame.specs.Row.{row_width, good_row}
 use Rattle.frame.specs.Store.{whole_rows, read_of}
 use Rattle.rules.specs.declared.Settings.{Settings}
@@ -23,38 +24,39 @@ use Rattle.cycle.specs.State.{addressed, is_ended, bad_store, out_of_turn, refus
 use Rattle.cycle.specs.Operands.{record_of}
 use Rattle.cycle.specs.Helpers.{late_in, is_stored, write_of, nop_checks, nop_done, nop_of}
 use Rattle.cycle.specs.NearCall.{call_checks, near_call_done, near_call_of}
-use Rattle.cycle.specs.Ret.{is_ok, return_checks, return_refusal, close_refusal_in, close_done, close_of, return_to, return_of}
+use Rattle.cycle.specs.Ret.{is_ok, return_checks, close_refusal_in, close_done, close_of, return_to, return_of}
 use Rattle.cycle.specs.Arithmetic.{result_in, arithmetic_done, arithmetic_of}
-use Rattle.cycle.specs.Execute.{sources_in, pointer_in, own_checks_in, execute_refusal_in, want_in, execute_done, execute_of, execute_store}
+use Rattle.cycle.specs.Execute.{sources_in, pointer_in, own_checks_in, want_in, execute_done, execute_of, execute_store}
 use Rattle.cycle.specs.Answers.{location_case, write_case, execute_case}
 use Rattle.cycle.specs.Answers.{top_row, top_frame, bad_pubdata, bad_reverts, late_write, execute_checks}
 use Rattle.cycle.specs.Tells.{write_tells, event_tells, execute_tells}
+use Rattle.cycle.proofs.CheckLaws.{not_zero}
 
 -- an answer with this number, which tells this where the number is 0
 record Answers (r : Staged ExecuteAnswer) (n : ℕ) (write event : List ℕ) : Type 0 where
   pub number : refusal_number r.answer ≡ n
   pub told : execute_case r.answer ≡ cond (eqb n 0) (write ∷ event ∷ []) []
 
--- the refusal of a number, where it is one, has it
-abbrev Numbered : ℕ → Type 0
-Numbered k = (k ≡ 0 → ⊥) → paper_number (numbered_refusal k) ≡ k
-
 -- by the first checks, k, and then by those after them, n
-settled_answers : (s : State) (k n m : ℕ) (done : Staged ExecuteAnswer) (write event : List ℕ) → Numbered k → m ≡ cond (eqb k 0) n k → (k ≡ 0 → Answers done n write event)
-    → Answers (settled k (refused_with s) done) m write event
-settled_answers s k n m done write event same e h = rw e (go (eqb k 0) refl)
+settled_answers : (s : State) (k n m : ℕ) (done : Staged ExecuteAnswer) (write event : List ℕ) → m ≡ cond (eqb k 0) n (paper_number (numbered_refusal k))
+    → (k ≡ 0 → Answers done n write event) → Answers (settled k (refused_with s) done) m write event
+settled_answers s k n m done write event e h =
+    cond_both (eqb k 0) done (refused_with s k) (λ r. Answers r m write event) (λ q. rw (e, q) (h (eqb-true k 0 q)))
+    (λ q. rw (e, q) (record { number = refl; told = rw (not_zero (numbered_refusal k)) refl }))
+
+-- the same where k is the number of checks
+checked_answers : (s : State) (cs : List Check) → T (all_numbered cs) → (n m : ℕ) (done : Staged ExecuteAnswer) (write event : List ℕ)
+    → m ≡ cond (eqb (first_of cs) 0) n (first_of cs)
+    → (first_of cs ≡ 0 → Answers done n write event) → Answers (settled (first_of cs) (refused_with s) done) m write event
+checked_answers s cs t n m done write event e h = settled_answers s (first_of cs) n m done write event (rw e (same (first_of cs) _ (number_first cs t))) h
   where
-    go : (z : Bool) → eqb k 0 ≡ z → Answers (cond z done (refused_with s k)) (cond z n k) write event
-    go true q = h (eqb-true k 0 q)
-    go false q = record { number = same (eqb-false k 0 q); told = rw q }
+    same : (k p : ℕ) → ((k ≡ 0 → ⊥) → p ≡ k) → cond (eqb k 0) n k ≡ cond (eqb k 0) n p
+    same k p f = grind (arith, f)
 
-done_answers : (s : State) (k : ℕ) (done : Staged ExecuteAnswer) (write event : List ℕ) → Numbered k → refusal_number done.answer ≡ 0
+done_answers : (s : State) (cs : List Check) → T (all_numbered cs) → (done : Staged ExecuteAnswer) (write event : List ℕ) → refusal_number done.answer ≡ 0
     → execute_case done.answer ≡ write ∷ event ∷ []
-    → Answers (settled k (refused_with s) done) k write event
-done_answers s k done write event same d t = settled_answers s k 0 k done write event same (grind arith) (λ z. record { number = d; told = t })
-
-either_order : (a b : Bool) → (a || b) ≡ (b || a)
-either_order a b = grind arith
+    → Answers (settled (first_of cs) (refused_with s) done) (first_of cs) write event
+done_answers s cs t done write event d c = checked_answers s cs t 0 (first_of cs) done write event (grind arith) (λ z. record { number = d; told = c })
 
 -- checks in two parts
 parts : (a b c d e : Bool) (n : ℕ)
@@ -97,7 +99,7 @@ module _ (settings : Settings) (word : U256) (pointer : Bool) (s : State) (store
 
   nop_answers : Answers (nop_of settings s) (first_of (rest false false false)) nothing nothing
   unfolding nop_of nop_done
-  nop_answers = done_answers s _ _ nothing nothing (number_first (nop_checks settings s) tt) refl refl
+  nop_answers = done_answers s (nop_checks settings s) tt _ nothing nothing refl refl
 
   -- what add and sub write
   abbrev sum_write : U256 → U256 → List ℕ
@@ -106,7 +108,7 @@ module _ (settings : Settings) (word : U256) (pointer : Bool) (s : State) (store
   sum_answers : (a b : U256) → Answers (arithmetic_of settings a b s) (first_of (rest false false true))
       (cond (is_stored s.kept.write) (sum_write a b) nothing) nothing
   unfolding arithmetic_of arithmetic_done
-  sum_answers a b = rw (either_order (late_in settings s) (late_write s)) (done_answers s _ _ _ nothing (number_first (((late_write s || late_in settings s) refuses 14) ∷ []) tt) refl (written s.kept.write))
+  sum_answers a b = rw (or_comm (late_in settings s) (late_write s)) (done_answers s (((late_write s || late_in settings s) refuses 14) ∷ []) tt _ _ nothing refl (written s.kept.write))
     where
       written : (l : Location)
           → write_case (write_of l s.timestamp (record { value = (result_in a b s).0; is_pointer = false })) ∷ nothing ∷ []
@@ -117,7 +119,7 @@ module _ (settings : Settings) (word : U256) (pointer : Bool) (s : State) (store
   call_answers : (want : ℕ) → Answers (near_call_of settings want s) (first_of (rest false true false)) nothing (1 ∷ [])
   unfolding near_call_of near_call_done
   call_answers want =
-      done_answers s _ _ nothing (1 ∷ []) (number_first (call_checks (eqb s.depth settings.depth_limit) (late_in settings s)) tt) refl refl
+      done_answers s (call_checks (eqb s.depth settings.depth_limit) (late_in settings s)) tt _ nothing (1 ∷ []) refl refl
 
   -- what a return tells
   abbrev closing : List ℕ
@@ -125,7 +127,7 @@ module _ (settings : Settings) (word : U256) (pointer : Bool) (s : State) (store
 
   close_answers : Answers (close_of settings (top_frame s store) s) (close_refusal_in settings (top_frame s store) s) nothing closing
   unfolding close_of close_done
-  close_answers = done_answers s _ _ nothing closing (number_first (close_checks settings (top_frame s store) s) tt) refl refl
+  close_answers = done_answers s (close_checks settings (top_frame s store) s) tt _ nothing closing refl refl
 
   -- by whether the top row is good
   read_answers : ltb (s.depth - 1) (whole_rows store) ≡ true
@@ -143,8 +145,7 @@ module _ (settings : Settings) (word : U256) (pointer : Bool) (s : State) (store
   return_answers : bad_store settings s store ≡ false → Answers (return_of settings s store) (first_of (rest true false false)) nothing closing
   unfolding return_of
   return_answers sized =
-      settled_answers s (return_refusal s.current.is_local_frame s.depth) _ _ _ nothing closing
-      (number_first (return_checks s.current.is_local_frame s.depth) tt) (grind arith)
+      checked_answers s (return_checks s.current.is_local_frame s.depth) tt _ _ _ nothing closing (grind arith)
       (λ z. read_answers (has_row settings.depth_limit s.depth (length store) sized (grind arith)))
 
   abbrev a : U256
@@ -176,7 +177,7 @@ module _ (settings : Settings) (word : U256) (pointer : Bool) (s : State) (store
       (first_of (execute_checks settings word pointer s store)) (write_tells word pointer s) (event_tells s)
   unfolding execute_of execute_done
   execute_answers =
-      settled_answers s (execute_refusal_in settings word pointer s store) _ _ _ _ _ (number_first (own_checks_in settings word pointer s store) tt)
+      checked_answers s (own_checks_in settings word pointer s store) tt _ _ _ _ _
       (parts (bad_store settings s store) (out_of_turn addressed s) (not (good_record (record_of s))) (eqb (record_of s).operation 5) (pointer_in word pointer s) _)
       (λ z. chosen (grind arith) (record_of s).operation (grind (arith, good_operation (record_of s))))
 

@@ -1,3 +1,4 @@
+pub mod CheckLaws
 pub mod OperandsLaws
 pub mod NearCallLaws
 pub mod AnswerLaws
