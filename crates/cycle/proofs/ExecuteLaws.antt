@@ -1,10 +1,11 @@
 -- Execute's refusal and its choice of the operation. Assumes nothing.
-use Rattle.std.proofs.Common.{◌≡◌, ℕ, ◌<◌, ◌≤◌, Bool, true, false, cond, not, ◌||◌, eqb, List, refl, arith}
+use Rattle.std.proofs.Common.{◌≡◌, ℕ, ◌<◌, ◌≤◌, Bool, true, false, cond, not, ◌||◌, eqb, List, arith}
 use Rattle.u256.specs.declared.U256.{U256}
 use Rattle.u256.specs.U256.{low_of}
 use Rattle.std.specs.Prelude.{Err}
 use Rattle.refusal.specs.declared.Refusal.{Refusal}
-use Rattle.refusal.specs.Refusal.{numbered_refusal}
+use Rattle.refusal.specs.Refusal.{paper_number}
+use Rattle.refusal.proofs.NumberLaws.{numbered_number}
 use Rattle.frame.specs.Kernel.{kernel_mode}
 use Rattle.rules.specs.declared.Settings.{Settings}
 use Rattle.rules.specs.declared.Sources.{Sources}
@@ -13,7 +14,7 @@ use Rattle.rules.specs.Sources.{pointer_refused}
 use Rattle.cycle.specs.declared.State.{State}
 use Rattle.cycle.specs.declared.Staged.{Staged}
 use Rattle.cycle.specs.declared.ExecuteAnswer.{ExecuteAnswer}
-use Rattle.cycle.specs.State.{bad_store}
+use Rattle.cycle.specs.State.{addressed, bad_store, out_of_turn, refused_with}
 use Rattle.cycle.specs.Operands.{record_of}
 use Rattle.cycle.specs.Helpers.{nop_of}
 use Rattle.cycle.specs.NearCall.{near_call_of, near_call_store}
@@ -38,17 +39,10 @@ call_tests o e = grind arith
 pub other_tests : (o : ℕ) → (o ≡ 0 → ⊥) → (o ≡ 3 → ⊥) → 3 ≤ o → Tests o false false false
 other_tests o n m h = grind arith
 
--- some check holds, and r is the refusal of the first: the last is not looked at
-some : (a b c d e : Bool) → (a || b || c || d || e) ≡ true
-    → (cond a Refusal.Sizes (cond b Refusal.Turn (cond c Refusal.Record (cond d Refusal.Operation Refusal.Pointer)))
-    ≡ numbered_refusal (cond a 1 (cond b 2 (cond c 3 (cond d 5 (cond e 6 0))))))
-    × (eqb (cond a 1 (cond b 2 (cond c 3 (cond d 5 (cond e 6 0))))) 0 ≡ false)
-some true b c d e t = (refl, refl)
-some false true c d e t = (refl, refl)
-some false false true d e t = (refl, refl)
-some false false false true e t = (refl, refl)
-some false false false false true t = (refl, refl)
-some false false false false false t = absurd (cc)
+-- some check holds, and n is the number of the first: the last is not looked at
+some : (a b c d e : Bool) (n : ℕ) → (a || b || c || d || e) ≡ true → n ≡ cond a 1 (cond b 2 (cond c 3 (cond d 5 6)))
+    → (cond a 1 (cond b 2 (cond c 3 (cond d 5 (cond e 6 0)))) ≡ n) × (eqb n 0 ≡ false)
+some a b c d e n t en = grind arith
 
 none : (a b c d e : Bool) → (a || b || c || d || e) ≡ false → cond {A = ℕ} a 1 (cond b 2 (cond c 3 (cond d 5 (cond e 6 0)))) ≡ 0
 none a b c d e z = grind arith
@@ -56,20 +50,33 @@ none a b c d e z = grind arith
 module _ (settings : Settings) (word : U256) (pointer : Bool) (s : State) (store : List ℕ)
     (sources : Sources) (es : sources ≡ sources_in word pointer s)
     (sizes : Bool) (ez : sizes ≡ bad_store settings s store)
+    (turn : Bool) (eu : turn ≡ out_of_turn addressed s)
     (good : Bool) (eg : good ≡ good_record (record_of s))
     (kernel : Bool) (ek : kernel ≡ kernel_mode s.current)
     (held : Bool) (eh : held ≡ pointer_refused kernel (record_of s) sources.src0.is_pointer sources.src1.is_pointer) where
   abbrev some_holds : Bool
-  some_holds = sizes || not (eqb s.stage 3) || not good || eqb (record_of s).operation 5 || held
+  some_holds = sizes || turn || not good || eqb (record_of s).operation 5 || held
 
-  pub refused : some_holds ≡ true → (q : Refusal)
-      → q
-      ≡ cond sizes Refusal.Sizes (cond (not (eqb s.stage 3)) Refusal.Turn (cond (not good) Refusal.Record (cond (eqb (record_of s).operation 5) Refusal.Operation Refusal.Pointer)))
-      → (r : Staged ExecuteAnswer) → r ≡ record { state = s; answer = Err q } → Ensured settings word pointer s store r store
+  pub refused : some_holds ≡ true → (n : ℕ)
+      → n ≡ cond sizes 1 (cond turn 2 (cond (not good) 3 (cond (eqb (record_of s).operation 5) 5 6)))
+      → (r : Staged ExecuteAnswer) → r ≡ refused_with s n → Ensured settings word pointer s store r store
   unfolding execute_of execute_store
-  refused t q eq r e =
-      let k = some sizes (not (eqb s.stage 3)) (not good) (eqb (record_of s).operation 5) held t in
-      ensured settings word pointer s store r store (rw (← es, ← ez, ← eg, ← ek, ← eh, k.1, ← k.0, ← eq) e) (rw (← es, ← ez, ← eg, ← ek, ← eh, k.1))
+  refused t n en r e =
+      let k = some sizes turn (not good) (eqb (record_of s).operation 5) held n t en in
+      ensured settings word pointer s store r store (rw (← es, ← ez, ← eu, ← eg, ← ek, ← eh, k.0, k.1) e) (rw (← es, ← ez, ← eu, ← eg, ← ek, ← eh, k.0, k.1))
+
+  -- the same by the refusal
+  pub refused_by : some_holds ≡ true → (q : Refusal)
+      → q
+      ≡ cond sizes Refusal.Sizes (cond turn Refusal.Turn (cond (not good) Refusal.Record (cond (eqb (record_of s).operation 5) Refusal.Operation Refusal.Pointer)))
+      → (r : Staged ExecuteAnswer) → r ≡ record { state = s; answer = Err q } → Ensured settings word pointer s store r store
+  refused_by t q eq r e =
+      refused t (paper_number q) (rw eq (number sizes turn (not good) (eqb (record_of s).operation 5))) r (rw (numbered_number q) e)
+    where
+      number : (a b c d : Bool)
+          → paper_number (cond a Refusal.Sizes (cond b Refusal.Turn (cond c Refusal.Record (cond d Refusal.Operation Refusal.Pointer))))
+          ≡ cond a 1 (cond b 2 (cond c 3 (cond d 5 6)))
+      number a b c d = grind arith
 
   -- by the tests
   pub done : some_holds ≡ false → (nop sum call : Bool) → Tests (record_of s).operation nop sum call → (r : Staged ExecuteAnswer) (after : List ℕ)
@@ -81,6 +88,6 @@ module _ (settings : Settings) (word : U256) (pointer : Bool) (s : State) (store
       → Ensured settings word pointer s store r after
   unfolding execute_of execute_done execute_store
   done z nop sum call t r after er ea =
-      let k = none sizes (not (eqb s.stage 3)) (not good) (eqb (record_of s).operation 5) held z in
-      ensured settings word pointer s store r after (rw (← es, ← ez, ← eg, ← ek, ← eh, k, t.0, t.1, t.2) er)
-      (rw (← es, ← ez, ← eg, ← ek, ← eh, k, t.2) ea)
+      let k = none sizes turn (not good) (eqb (record_of s).operation 5) held z in
+      ensured settings word pointer s store r after (rw (← es, ← ez, ← eu, ← eg, ← ek, ← eh, k, t.0, t.1, t.2) er)
+      (rw (← es, ← ez, ← eu, ← eg, ← ek, ← eh, k, t.2) ea)

@@ -1,10 +1,10 @@
 -- The stack page that operands looks at, and what it tells of the places. Assumes nothing.
-use Rattle.std.proofs.Common.{◌≡◌, ℕ, ◌+◌, ◌%◌, ◌^◌, List, [], ◌∷◌, Bool, true, false, cond, ◌||◌, not, eqb, refl, ap, arith, mod-eq_of_lt}
+use Rattle.std.proofs.Common.{◌≡◌, ℕ, ◌+◌, ◌%◌, ◌^◌, List, [], ◌∷◌, Bool, true, false, cond, ◌||◌, not, refl, arith, mod-eq_of_lt}
 use Rattle.std.specs.Prelude.{Err}
 use Rattle.rules.specs.declared.Settings.{Settings}
 use Rattle.rules.specs.Record.{good_record}
 use Rattle.refusal.specs.declared.Refusal.{Refusal}
-use Rattle.refusal.specs.Refusal.{paper_number, numbered_refusal, refusal_number}
+use Rattle.refusal.specs.Refusal.{paper_number, refusal_number}
 use Rattle.u256.specs.declared.U256.{U256}
 use Rattle.rules.specs.declared.Record.{Record}
 use Rattle.rules.specs.Address.{lacks_stack_page, source_at, destination_at, places_of}
@@ -12,10 +12,11 @@ use Rattle.rules.proofs.AddressLaws.{places_page}
 use Rattle.cycle.specs.declared.State.{State}
 use Rattle.cycle.specs.declared.Staged.{Staged}
 use Rattle.cycle.specs.declared.OperandsAnswer.{OperandsAnswer}
-use Rattle.cycle.specs.State.{bad_store}
-use Rattle.cycle.specs.Operands.{record_of, places_in, operands_refusal, operands_of}
+use Rattle.cycle.specs.State.{decoded, bad_store, out_of_turn}
+use Rattle.cycle.specs.Operands.{record_of, places_in, operands_checks, operands_refusal, operands_done, operands_of}
 use Rattle.cycle.specs.Answers.{location_case, operands_case}
 use Rattle.cycle.specs.Tells.{source_tells, destination_tells, operands_tells}
+use Rattle.cycle.proofs.CheckLaws.{refused_first}
 
 -- a stack page that is looked at has 32 bits
 pub places_exact : (w : ℕ) (r : Record) (registers : List U256) (base code_page sp : ℕ) → lacks_stack_page r base ≡ false
@@ -27,23 +28,19 @@ pub places_told : (w : ℕ) (s : State)
 unfolding places_of source_at destination_at
 places_told w s = grind arith
 
--- some check holds: the refusal of the first, its number, and that it is one
-first : (a b c d : Bool) → (a || b || c || d) ≡ true
-    → (cond a Refusal.Sizes (cond b Refusal.Turn (cond c Refusal.Record Refusal.Above32Bits)) ≡ numbered_refusal (cond a 1 (cond b 2 (cond c 3 (cond d 14 0)))))
-    × (paper_number (cond a Refusal.Sizes (cond b Refusal.Turn (cond c Refusal.Record Refusal.Above32Bits))) ≡ cond a 1 (cond b 2 (cond c 3 (cond d 14 0))))
-    × (eqb (cond a 1 (cond b 2 (cond c 3 (cond d 14 0)))) 0 ≡ false)
-first true b c d t = (refl, refl, refl)
-first false true c d t = (refl, refl, refl)
-first false false true d t = (refl, refl, refl)
-first false false false true t = (refl, refl, refl)
-first false false false false t = absurd (cc)
-
-pub refused : (settings : Settings) (s : State) (store : List ℕ) (sizes : Bool) → sizes ≡ bad_store settings s store → (good : Bool) → good ≡ good_record (record_of s)
-    → (lacking : Bool) → lacking ≡ lacks_stack_page (record_of s) s.current.base_memory_page → (sizes || not (eqb s.stage 2) || not good || lacking) ≡ true
-    → (q : Refusal) → q ≡ cond sizes Refusal.Sizes (cond (not (eqb s.stage 2)) Refusal.Turn (cond (not good) Refusal.Record Refusal.Above32Bits))
+-- some check holds, and q is the refusal of the first
+pub refused : (settings : Settings) (s : State) (store : List ℕ) (sizes : Bool) → sizes ≡ bad_store settings s store
+    → (turn : Bool) → turn ≡ out_of_turn decoded s → (good : Bool) → good ≡ good_record (record_of s) → (lacking : Bool) → lacking ≡ lacks_stack_page (record_of s) s.current.base_memory_page
+    → (sizes || turn || not good || lacking) ≡ true
+    → (q : Refusal) → q ≡ cond sizes Refusal.Sizes (cond turn Refusal.Turn (cond (not good) Refusal.Record Refusal.Above32Bits))
     → (kept : State) → kept ≡ s → (r : Staged OperandsAnswer) → r ≡ record { state = kept; answer = Err q }
     → (r ≡ operands_of settings s store) × (refusal_number r.answer ≡ operands_refusal settings s store) × (operands_case r.answer ≡ operands_tells settings s store)
 unfolding operands_of
-refused settings s store sizes ez good eg lacking el t q eq kept ek r er =
-    let k = first sizes (not (eqb s.stage 2)) (not good) lacking t in
-    rw (er, ← ez, ← eg, ← el, k.2, ek, eq) (ap (λ (r : Refusal). record { state = s; answer = Err r }) k.0, k.1, refl)
+refused settings s store sizes ez turn eu good eg lacking el t q eq kept ek r er =
+    let k = refused_first s (operands_done 16 s) (operands_checks settings s store) tt (rw (← ez, ← eu, ← eg, ← el) t) q
+    (rw (eq, ← ez, ← eu, ← eg) (number sizes turn (not good))) in
+    rw (er, ek) (k.0, k.1, rw k.2 refl)
+  where
+    number : (a b c : Bool)
+        → paper_number (cond a Refusal.Sizes (cond b Refusal.Turn (cond c Refusal.Record Refusal.Above32Bits))) ≡ cond a 1 (cond b 2 (cond c 3 14))
+    number a b c = grind arith

@@ -3,10 +3,11 @@ use Rattle.std.specs.Prelude.{ℕ, Bool, cond, not, List, length, Err, ◌==◌}
 use Rattle.refusal.specs.Refusal.{numbered_refusal}
 use Rattle.rules.specs.declared.Settings.{Settings}
 use Rattle.rules.specs.Sizes.{bad_sizes}
+use Rattle.cycle.specs.declared.Stage.{Stage}
 use Rattle.cycle.specs.declared.State.{State}
 use Rattle.cycle.specs.declared.Staged.{Staged}
 
--- the numbers of the stages
+-- the numbers of the stages reached, and of the stage that comes next then
 abbrev pub ready : ℕ
 ready = 0
 
@@ -18,6 +19,12 @@ decoded = 2
 
 abbrev pub addressed : ℕ
 addressed = 3
+
+abbrev pub stage_number : Stage → ℕ
+stage_number Stage.Fetch = ready
+stage_number Stage.Decode = fetched
+stage_number Stage.Operands = decoded
+stage_number Stage.Execute = addressed
 
 abbrev pub is_ended : State → Bool
 is_ended s = s.depth == 0

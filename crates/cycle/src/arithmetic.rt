@@ -37,7 +37,7 @@ impl State {
         let word = result.0;
         let old = self.flags;
         let flags = arithmetic::flags_after(instruction.set_flags, old, result);
-        let pc = time::next_pc(self.current.pc, self.depth == 0);
+        let pc = time::next_pc(self.current.pc, self.is_ended());
         let value = PrimitiveValue {
             value: word,
             is_pointer: false,

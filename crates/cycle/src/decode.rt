@@ -7,7 +7,7 @@ ghost use Rattle.cycle.specs.Tells.{decode_tells};
 
 use crate::{DecodeAnswer, Decoded, Kept, Stage, Staged, State};
 use refusal::Refusal;
-use rules::{Location, Record, Records, Settings, decode, fetch, parsing, sizes};
+use rules::{Location, Record, Records, Settings, decode, fetch, parsing};
 
 // What decode charges, and the ergs that are left.
 #[derive(Clone, Copy)]
@@ -72,12 +72,12 @@ impl State {
         let nop = records.nop;
         let current = self.current;
         let flags = self.flags;
-        let ended = self.depth == 0;
+        let ended = self.is_ended();
         let errors = decode::error_flags(current, self.depth, settings.depth_limit, plain);
         let flagged = decode::any_error(errors);
-        let sizes = sizes::bad_sizes(settings.depth_limit, self.depth, store.len());
+        let sizes = self.has_bad_store(settings, store);
         let bad = parsing::bad_records(records, ended, self.pending_exception, flagged);
-        let turn = !(self.stage == Stage::Decode as u8);
+        let turn = self.is_out_of_turn(Stage::Decode);
         if sizes | turn | bad {
             let refusal = refusal::first_after(
                 &[(sizes, Refusal::Sizes), (turn, Refusal::Turn)],

@@ -8,7 +8,7 @@ ghost use Rattle.cycle.specs.Tells.{execute_tells};
 use crate::{Executed, Stage, State};
 use refusal::Refusal;
 use rules::kinds::Operation;
-use rules::{Settings, parsing, select, sizes};
+use rules::{Settings, parsing, select};
 use u256::U256;
 
 const NOP: u8 = Operation::Nop as u8;
@@ -41,7 +41,7 @@ impl State {
         let src0 = sources.src0;
         let src1 = sources.src1;
         let operation = instruction.operation;
-        let sizes = sizes::bad_sizes(settings.depth_limit, self.depth, store.len());
+        let sizes = self.has_bad_store(settings, store);
         let bad = !parsing::good_record(instruction);
         let held = select::pointer_refused(
             self.current.is_kernel_mode(),
@@ -49,7 +49,7 @@ impl State {
             src0.is_pointer,
             src1.is_pointer,
         );
-        let turn = !(self.stage == Stage::Execute as u8);
+        let turn = self.is_out_of_turn(Stage::Execute);
         let other = operation == Operation::Other as u8;
         if sizes | turn | bad | other | held {
             return self.refused(refusal::first_after(

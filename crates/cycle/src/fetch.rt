@@ -8,7 +8,7 @@ ghost use Rattle.cycle.specs.Tells.{query_tells, fetch_tells};
 use crate::{FetchAnswer, Fetched, Stage, Staged, State};
 use refusal::Refusal;
 use rules::kinds::MemoryType;
-use rules::{Location, Settings, fetch, sizes};
+use rules::{Location, Settings, fetch};
 use u256::U256;
 
 fn query_of(wanted: bool, page: u32, index: u16) -> Location
@@ -56,7 +56,7 @@ impl State {
         let super_pc = fetch::super_pc(self.current.pc);
         let page = self.current.code_page;
         let wanted = fetch::code_wanted(
-            self.depth == 0,
+            self.is_ended(),
             page,
             self.previous_code_memory_page,
             super_pc,
@@ -72,10 +72,10 @@ impl State {
             × (refusal_number result.answer ≡ fetch_refusal settings self store.now)
             × (fetch_case result.answer ≡ fetch_tells settings word self store.now) }
     {
-        let ended = self.depth == 0;
+        let ended = self.is_ended();
         let pending = self.pending_exception;
-        let sizes = sizes::bad_sizes(settings.depth_limit, self.depth, store.len());
-        let turn = !(self.stage == Stage::Fetch as u8);
+        let sizes = self.has_bad_store(settings, store);
+        let turn = self.is_out_of_turn(Stage::Fetch);
         if sizes | turn | (ended & pending) {
             let refusal = refusal::first_after(
                 &[(sizes, Refusal::Sizes), (turn, Refusal::Turn)],

@@ -1,13 +1,14 @@
 // What the operations of execute share, after the Rust's `helpers.rs`.
 ghost use Rattle.std.specs.Prelude.{◌≡◌, ◌+◌, ◌^◌, ◌<◌, true, false};
 ghost use Rattle.rules.specs.Time.{time_after};
+ghost use Rattle.cycle.specs.State.{stage_number, is_ended, bad_store, out_of_turn};
 ghost use Rattle.cycle.specs.Effects.{no_flags, finished_state, moved_state, written_state, switched_state};
 ghost use Rattle.cycle.specs.Helpers.{late_in, finished_in, is_stored, write_of, nop_of};
 
 use crate::{ExecuteAnswer, Executed, Kept, Stage, Staged, State, Write};
 use frame::{Frame, PubdataCost};
 use refusal::Refusal;
-use rules::{Flags, Location, PrimitiveValue, Record, Settings, time};
+use rules::{Flags, Location, PrimitiveValue, Record, Settings, sizes, time};
 use u256::U256;
 
 pub(crate) fn time_after(time: u32, step: u32, ended: bool) -> u32
@@ -15,13 +16,6 @@ pub(crate) fn time_after(time: u32, step: u32, ended: bool) -> u32
     ensures { result ≡ time_after time step ended }
 {
     if ended { time } else { time + step }
-}
-
-pub(crate) fn sum(a: u32, b: u32) -> u32
-    requires { a + b < 2 ^ 32 }
-    ensures { result ≡ a + b }
-{
-    a + b
 }
 
 pub(crate) fn no_flags() -> Flags
@@ -33,14 +27,7 @@ pub(crate) fn no_flags() -> Flags
 pub(crate) fn is_stored(location: Location) -> bool
     ensures { result ≡ is_stored location }
 {
-    match location {
-        Location::None => false,
-        Location::At {
-            memory_type: _,
-            page: _,
-            index: _,
-        } => true,
-    }
+    matches!(location, Location::At { .. })
 }
 
 // A write carries time plus 3.
@@ -159,6 +146,26 @@ impl State {
         next
     }
 
+    pub(crate) fn is_ended(self) -> bool
+        ensures { result ≡ is_ended self }
+    {
+        self.depth == 0
+    }
+
+    // Refusal 1 of every stage.
+    pub(crate) fn has_bad_store(self, settings: Settings, store: &[u32]) -> bool
+        ensures { result ≡ bad_store settings self store.now }
+    {
+        sizes::bad_sizes(settings.depth_limit, self.depth, store.len())
+    }
+
+    // Refusal 2 of every stage.
+    pub(crate) fn is_out_of_turn(self, stage: Stage) -> bool
+        ensures { result ≡ out_of_turn (stage_number stage) self }
+    {
+        self.stage != stage as u8
+    }
+
     // Refusal 14 of every operation.
     pub(crate) fn is_late(self, settings: Settings) -> bool
         ensures { result ≡ late_in settings self }
@@ -167,7 +174,7 @@ impl State {
             self.timestamp,
             settings.time_step,
             self.monotonic_cycle_counter,
-            self.depth == 0,
+            self.is_ended(),
         )
     }
 
@@ -185,8 +192,8 @@ impl State {
         requires { late_in settings self ≡ false }
         ensures { result ≡ finished_in settings self }
     {
-        let after = time_after(self.timestamp, settings.time_step, self.depth == 0);
-        let counter = sum(self.monotonic_cycle_counter, 1);
+        let after = time_after(self.timestamp, settings.time_step, self.is_ended());
+        let counter = self.monotonic_cycle_counter + 1;
         self.finished(after, counter)
     }
 
@@ -198,7 +205,7 @@ impl State {
         if self.is_late(settings) {
             return self.refused(Refusal::Above32Bits);
         }
-        let pc = time::next_pc(self.current.pc, self.depth == 0);
+        let pc = time::next_pc(self.current.pc, self.is_ended());
         let next = self.finish(settings).moved(pc);
         Staged {
             state: next,

@@ -33,7 +33,7 @@ impl State {
         let opened = near_call::opened_frame(caller, passed, instruction.imm_0, instruction.imm_1);
         let reverts = self.pubdata_revert_counter;
         let base = self.finish(settings);
-        let next = base.switched(opened, helpers::sum(depth, 1), helpers::no_flags(), reverts);
+        let next = base.switched(opened, depth + 1, helpers::no_flags(), reverts);
         Staged {
             state: next,
             answer: Ok(ExecuteAnswer {

@@ -7,7 +7,7 @@ ghost use Rattle.cycle.specs.Tells.{operands_tells};
 
 use crate::{Addressed, Kept, OperandsAnswer, Stage, Staged, State};
 use refusal::Refusal;
-use rules::{Location, Settings, mem_ops, parsing, sizes};
+use rules::{Location, Settings, mem_ops, parsing};
 
 impl State {
     #[tactic(auto, unfolding(crate::specs::Operands::addressed_state, frame::specs::Fields::with_sp))]
@@ -33,10 +33,10 @@ impl State {
         let kept = self.kept;
         let instruction = kept.instruction;
         let base = self.current.base_memory_page;
-        let sizes = sizes::bad_sizes(settings.depth_limit, self.depth, store.len());
+        let sizes = self.has_bad_store(settings, store);
         let bad = !parsing::good_record(instruction);
         let lacking = mem_ops::lacks_stack_page(instruction, base);
-        let turn = !(self.stage == Stage::Operands as u8);
+        let turn = self.is_out_of_turn(Stage::Operands);
         if sizes | turn | bad | lacking {
             let refusal = refusal::first_after(
                 &[
@@ -50,7 +50,7 @@ impl State {
             return self.apart().refused(refusal);
         }
         let registers = self.registers;
-        let page = std::num::wrapping_add_u32(base, 1);
+        let page = base.wrapping_add(1);
         let places = mem_ops::places(
             instruction,
             registers,

@@ -2,7 +2,7 @@
 ghost use Rattle.std.specs.Prelude.{◌≡◌};
 ghost use Rattle.cycle.specs.Ret.{panic_flags, close_of, return_of};
 
-use crate::{Event, ExecuteAnswer, Executed, Staged, State, helpers};
+use crate::{Event, ExecuteAnswer, Executed, Staged, State};
 use frame::Frame;
 use refusal::Refusal;
 use rules::kinds::ReturnKind;
@@ -35,7 +35,7 @@ impl State {
         if ret::is_close_refused(spent, reverted, caller, f, self.is_late(settings)) {
             return self.refused(ret::close_refusal(spent, reverted, caller, f));
         }
-        let ergs = helpers::sum(caller.ergs_remaining, f.ergs_remaining);
+        let ergs = caller.ergs_remaining + f.ergs_remaining;
         let resumed = ret::resumed_frame(instruction, caller, f, spent, ergs);
         let counter = ret::cost_of(reverted);
         let flags = panic_flags(instruction.return_kind == ReturnKind::Panic as u8);
