@@ -8,6 +8,7 @@ use mathlib.Core.Option.{some}
 use lib.Dec.{T, eqb}
 use native.Mathlib.Omega.{arith}
 use borrow.Author.Tests.{eqb-true, eqb-false}
+use Rattle.std.proofs.lemmas.Bool.{cond_both}
 use Rattle.std.proofs.lemmas.Bool.Decides.{nat_tests}
 use Rattle.std.specs.List.{list_all, list_any}
 use Rattle.refusal.specs.Refusal.{Check, first_of, paper_number, numbered_refusal}
@@ -43,11 +44,7 @@ module _ {numbers : List ℕ} {s : State} {store : List ℕ} {o : Outcome State}
 -- by the number of a stage's refusal
 pub by_number : {A : Type 0} (P : A → Type 0) (n : ℕ) (refuse : ℕ → A) (finish : A) → (n ≡ 0 → P finish) → ((n ≡ 0 → ⊥) → P (refuse n))
     → P (settled n refuse finish)
-by_number P n refuse finish f r = go (eqb n 0) refl
-  where
-    go : (t : Bool) → eqb n 0 ≡ t → P (cond t finish (refuse n))
-    go true e = f (eqb-true n 0 e)
-    go false e = r (eqb-false n 0 e)
+by_number P n refuse finish f r = cond_both (eqb n 0) finish (refuse n) P (λ e. f (eqb-true n 0 e)) (λ e. r (eqb-false n 0 e))
 
 -- the same of two things that go by one test
 pub both : {A B : Type 0} (P : A → B → Type 0) (t : Bool) (a b : A) (u v : B) → (t ≡ true → P a u) → (t ≡ false → P b v) → P (cond t a b) (cond t u v)

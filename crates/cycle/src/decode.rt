@@ -16,7 +16,8 @@ pub(crate) struct Paid {
     pub ergs: u32,
 }
 
-// Where no flag is set the price is covered, and nothing has to be tested. In a branch of its own the compiler joins that with the choice of the record.
+// Where no flag is set the price is covered, and nothing has to be tested. In a branch of its own the compiler joins that with the choice of the record. With a
+// test in place of the requires the listing's cycle takes 136 instructions and not 101 (docs/SPEED.md).
 fn pay(flagged: bool, price: u32, held: u32) -> Paid
     requires { flagged ≡ false → price ≤ held }
     ensures { result ≡ record { charge = min price held; ergs = held - price } }
@@ -78,6 +79,8 @@ impl State {
         let sizes = self.has_bad_store(settings, store);
         let bad = parsing::bad_records(records, ended, self.pending_exception, flagged);
         let turn = self.is_out_of_turn(Stage::Decode);
+        // One branch on whether some check holds, and the list inside it (D62): by the number of the first, the listing's cycle takes 167 instructions and not 101
+        // (docs/SPEED.md).
         if sizes | turn | bad {
             let refusal = refusal::first_after(
                 &[(sizes, Refusal::Sizes), (turn, Refusal::Turn)],

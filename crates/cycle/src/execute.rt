@@ -51,6 +51,7 @@ impl State {
         );
         let turn = self.is_out_of_turn(Stage::Execute);
         let other = operation == Operation::Other as u8;
+        // One branch, and the list inside it (D62), as in decode.
         if sizes | turn | bad | other | held {
             return self.refused(refusal::first_after(
                 &[

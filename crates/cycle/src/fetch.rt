@@ -76,6 +76,7 @@ impl State {
         let pending = self.pending_exception;
         let sizes = self.has_bad_store(settings, store);
         let turn = self.is_out_of_turn(Stage::Fetch);
+        // One branch, and the list inside it (D62), as in decode.
         if sizes | turn | (ended & pending) {
             let refusal = refusal::first_after(
                 &[(sizes, Refusal::Sizes), (turn, Refusal::Turn)],

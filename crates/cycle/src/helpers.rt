@@ -11,6 +11,7 @@ use refusal::Refusal;
 use rules::{Flags, Location, PrimitiveValue, Record, Settings, sizes, time};
 use u256::U256;
 
+// The branch of the operation that calls it has tested that the time fits (D62): a test here would be made twice. So with write_of and State::finish.
 pub(crate) fn time_after(time: u32, step: u32, ended: bool) -> u32
     requires { ended ≡ false → time + step < 2 ^ 32 }
     ensures { result ≡ time_after time step ended }

@@ -1,4 +1,4 @@
-// The machine state, and the stages of a cycle as methods on it.
+// The machine state, and the stages of a cycle as methods on it. Settings and the frame store are given with each call, as document 01 has it: any are answered.
 #![tactic(auto)]
 
 mod arithmetic;

@@ -8,7 +8,7 @@ use refusal::Refusal;
 use rules::{Settings, near_call, time};
 
 impl State {
-    // The caller's row is written at the first free row.
+    // The caller's row is written at the first free row. Execute has tested the store (D62): a test here would be made twice.
     #[tactic(auto, using(crate::proofs::NearCallLaws::room), unfolding(crate::specs::NearCall::near_call_of, crate::specs::NearCall::near_call_done, crate::specs::NearCall::near_call_store))]
     pub(crate) fn near_call(self, settings: Settings, want: u32, store: &mut [u32]) -> Executed
         requires { bad_store settings self store.old ≡ false }
@@ -18,6 +18,7 @@ impl State {
         let instruction = kept.instruction;
         let depth = self.depth;
         let full = depth == settings.depth_limit;
+        // One branch, and the list inside it (D62), as in decode.
         if full | self.is_late(settings) {
             return self.refused(refusal::first_after(
                 &[(full, Refusal::DepthLimit)],

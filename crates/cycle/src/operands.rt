@@ -37,6 +37,7 @@ impl State {
         let bad = !parsing::good_record(instruction);
         let lacking = mem_ops::lacks_stack_page(instruction, base);
         let turn = self.is_out_of_turn(Stage::Operands);
+        // One branch, and the list inside it (D62), as in decode.
         if sizes | turn | bad | lacking {
             let refusal = refusal::first_after(
                 &[

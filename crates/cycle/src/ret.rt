@@ -58,6 +58,7 @@ impl State {
     {
         let depth = self.depth;
         let far = !self.current.is_local_frame;
+        // One branch, and the list inside it (D62), as in decode.
         if far | (depth == 0) {
             return self.refused(refusal::first_after(
                 &[(far, Refusal::FarReturn)],

@@ -1,6 +1,7 @@
 -- One line's cycle. Document 01: "multiplier 1, time step 4"; "It starts at depth 1 in a far frame, an ergs-free frame below. All of the state, records and words that
 -- no line sets is 0 or no, but for the masked records' operations and a call's register."
 use Rattle.std.specs.Prelude.{ℕ, ◌+◌, false, cond, List, Result, Ok, Err, replicate, set, get_or}
+use Rattle.std.specs.Result.{is_ok}
 use Rattle.u256.specs.U256.{one_word}
 use Rattle.frame.specs.Store.{saved_ergs}
 use Rattle.registers.specs.Registers.{empty_word}
@@ -11,7 +12,7 @@ use Rattle.stepper.specs.declared.Cycled.{Cycled}
 use Rattle.stepper.specs.Start.{instruction, records_of, settings_of, start_state, empty_store}
 use Rattle.stepper.specs.declared.CycleAnswer.{CycleAnswer}
 use Rattle.stepper.specs.declared.CycleRefusal.{CycleRefusal}
-use Rattle.stepper.specs.Cycle.{cycle_of, cycle_store, is_done, cycle_charge}
+use Rattle.stepper.specs.Cycle.{cycle_of, cycle_store, cycle_charge}
 use Rattle.refusal.specs.declared.Refusal.{Refusal}
 use Rattle.tally.specs.Tally.{enter_of, tally_after}
 use Rattle.table.specs.declared.Op.{Op}
@@ -90,7 +91,7 @@ store_after limit line b = cycle_store (input_of limit line.op line.price) (requ
 
 unfoldable pub entries_after : ℕ → Line → Run → List ℕ
 entries_after limit line b =
-    cond (is_done (cycle_in limit line b).answer)
+    cond (is_ok (cycle_in limit line b).answer)
     (tally_after b.tally limit b.state.depth (cycle_in limit line b).state.depth (cycle_charge (cycle_in limit line b).answer))
     b.tally
 

@@ -1,6 +1,7 @@
 -- A whole cycle. Document 01: "A cycle is a fetch, decode, operands and execute of the list, all finished, in turn". Each stage is given the state that the one before
 -- it handed back; the first refusal ends it.
-use Rattle.std.specs.Prelude.{ℕ, Bool, true, false, cond, ◌&&◌, List, Result, Ok, Err}
+use Rattle.std.specs.Prelude.{ℕ, Bool, cond, ◌&&◌, List, Result, Ok, Err}
+use Rattle.std.specs.Result.{is_ok}
 use Rattle.refusal.specs.declared.Refusal.{Refusal}
 use Rattle.refusal.specs.Refusal.{paper_number}
 use Rattle.cycle.specs.declared.State.{State}
@@ -56,13 +57,9 @@ cycle_of input s store =
     (λ r. refused_at (decode_in input s store).state r Stage.Decode))
     (λ r. refused_at (fetch_in input s store).state r Stage.Fetch)
 
-abbrev pub is_done : {A E : Type 0} → Result A E → Bool
-is_done (Ok answer) = true
-is_done (Err refused) = false
-
 -- whether execute is reached
 abbrev pub is_reached : Input → State → List ℕ → Bool
-is_reached input s store = is_done (fetch_in input s store).answer && is_done (decode_in input s store).answer && is_done (operands_in input s store).answer
+is_reached input s store = is_ok (fetch_in input s store).answer && is_ok (decode_in input s store).answer && is_ok (operands_in input s store).answer
 
 -- the store afterwards: execute alone writes it
 unfoldable pub cycle_store : Input → State → List ℕ → List ℕ

@@ -95,7 +95,7 @@ pub fn cycle(state: State, input: Input, store: &mut [u32]) -> Cycled
     }
 }
 
-// The refusal's number, 0 where there is none, for a caller that tells numbers.
+// The refusal's number, 0 where there is none. No crate here calls it: it stays since it was promised, and refusals are told by number outside.
 pub fn cycle_number(answer: Result<CycleAnswer, CycleRefusal>) -> u32
     ensures { result ≡ cycle_number answer }
 {
