@@ -13,25 +13,10 @@ pub fn empty_word() -> U256
     U256::default()
 }
 
-// Word by word: a choice between whole structs costs 475 instructions in place of 462 (docs/SPEED.md, staged).
 pub fn either_word(first: bool, a: U256, b: U256) -> U256
     ensures { result ≡ cond first a b }
 {
-    if first {
-        U256 {
-            w0: a.w0,
-            w1: a.w1,
-            w2: a.w2,
-            w3: a.w3,
-        }
-    } else {
-        U256 {
-            w0: b.w0,
-            w1: b.w1,
-            w2: b.w2,
-            w3: b.w3,
-        }
-    }
+    if first { a } else { b }
 }
 
 fn select_or<T: Copy>(values: [T; 15], n: u8, empty: T) -> T
