@@ -6,6 +6,7 @@ use crate::{Event, ExecuteAnswer, Executed, Staged, State};
 use frame::Frame;
 use refusal::Refusal;
 use rules::kinds::ReturnKind;
+use rules::ret::Closing;
 use rules::{Flags, Settings, ret};
 
 fn panic_flags(panic: bool) -> Flags
@@ -30,14 +31,18 @@ impl State {
         let reverts = self.pubdata_revert_counter;
         let ok = instruction.return_kind == ReturnKind::Ok as u8;
         let caller_cost = caller.total_pubdata_spent;
-        let spent = ret::pubdata_after(ok, caller_cost, closed_cost);
-        let reverted = ret::counter_after(ok, reverts, closed_cost);
-        if ret::is_close_refused(spent, reverted, caller, f, self.is_late(settings)) {
-            return self.refused(ret::close_refusal(spent, reverted, caller, f));
+        let closing = Closing {
+            caller,
+            closed: f,
+            spent: ret::pubdata_after(ok, caller_cost, closed_cost),
+            reverted: ret::counter_after(ok, reverts, closed_cost),
+        };
+        if closing.is_refused(self.is_late(settings)) {
+            return self.refused(closing.refusal());
         }
         let ergs = caller.ergs_remaining + f.ergs_remaining;
-        let resumed = ret::resumed_frame(instruction, caller, f, spent, ergs);
-        let counter = ret::cost_of(reverted);
+        let resumed = closing.resumed(instruction, ergs);
+        let counter = ret::cost_of(closing.reverted);
         let flags = panic_flags(instruction.return_kind == ReturnKind::Panic as u8);
         let depth = self.depth.saturating_sub(1);
         let next = self

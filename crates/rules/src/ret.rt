@@ -12,7 +12,7 @@ use refusal::Refusal;
 fn is_none(cost: PubdataCost) -> bool
     ensures { result ≡ true → cost.0 ≡ pos 0 }
 {
-    (0 <= cost.0) & (cost.0 <= 0)
+    cost.0 == 0
 }
 
 // The caller's pubdata: on ok the closed frame's is added.
@@ -84,46 +84,6 @@ pub fn is_shrunk(caller: Frame, closed: Frame) -> bool
     (closed.heap_bound < caller.heap_bound) | (closed.aux_heap_bound < caller.aux_heap_bound)
 }
 
-// Whether one of refusals 10 to 14 holds; the sums of pubdata are made before.
-pub fn is_close_refused(
-    spent: Option<i32>,
-    reverted: Option<i32>,
-    caller: Frame,
-    closed: Frame,
-    late: bool,
-) -> bool
-    ensures { result ≡ (is_outside spent || is_bad_counter reverted || ergs_past caller.ergs_remaining closed.ergs_remaining || is_shrunk caller closed || late) }
-{
-    // The sums by themselves: of a frame that spent nothing the compiler knows them before.
-    if is_outside(spent) | is_bad_counter(reverted) {
-        return true;
-    }
-    ergs_past(caller.ergs_remaining, closed.ergs_remaining) | is_shrunk(caller, closed) | late
-}
-
-// The first of them, one of which holds.
-pub fn close_refusal(
-    spent: Option<i32>,
-    reverted: Option<i32>,
-    caller: Frame,
-    closed: Frame,
-) -> Refusal
-    ensures { result ≡ (if is_outside spent then Refusal.PubdataSum else (if is_bad_counter reverted then Refusal.RevertCounter
-        else (if ergs_past caller.ergs_remaining closed.ergs_remaining then Refusal.ErgsSum
-        else (if is_shrunk caller closed then Refusal.HeapBound else Refusal.Above32Bits)))) }
-{
-    let past = ergs_past(caller.ergs_remaining, closed.ergs_remaining);
-    refusal::first_after(
-        &[
-            (is_outside(spent), Refusal::PubdataSum),
-            (is_bad_counter(reverted), Refusal::RevertCounter),
-            (past, Refusal::ErgsSum),
-            (is_shrunk(caller, closed), Refusal::HeapBound),
-        ],
-        Refusal::Above32Bits,
-    )
-}
-
 #[tactic(auto, unfolding(crate::specs::Ret::resumed_with))]
 fn resumed(caller: Frame, closed: Frame, pubdata: PubdataCost, ergs: u32, pc: u16) -> Frame
     ensures { result ≡ resumed_with caller closed pubdata ergs pc }
@@ -139,24 +99,64 @@ fn resumed(caller: Frame, closed: Frame, pubdata: PubdataCost, ergs: u32, pc: u1
     f
 }
 
-// The caller as it goes on with this pubdata and so many ergs.
-pub fn resumed_frame(
-    r: Record,
-    caller: Frame,
-    closed: Frame,
-    spent: Option<i32>,
-    ergs: u32,
-) -> Frame
-    ensures { result ≡ resumed_with caller closed (cost_of spent) ergs
-        (return_pc (nat_eq r.return_kind 0) r.to_label r.imm_0 closed.exception_handler_location caller.pc) }
-{
-    let cost = cost_of(spent);
-    let pc = return_pc(
-        r.return_kind == ReturnKind::Ok as u8,
-        r.to_label,
-        r.imm_0,
-        closed.exception_handler_location,
-        caller.pc,
-    );
-    resumed(caller, closed, cost, ergs, pc)
+// A frame that closes, with its caller, and what the caller's pubdata and the revert counter are after it.
+#[derive(Clone, Copy)]
+pub struct Closing {
+    pub caller: Frame,
+    pub closed: Frame,
+    pub spent: Option<i32>,
+    pub reverted: Option<i32>,
+}
+
+impl Closing {
+    fn is_past(self) -> bool
+        ensures { result ≡ ergs_past self.caller.ergs_remaining self.closed.ergs_remaining }
+    {
+        ergs_past(self.caller.ergs_remaining, self.closed.ergs_remaining)
+    }
+
+    // Whether one of refusals 10 to 14 holds.
+    pub fn is_refused(self, late: bool) -> bool
+        ensures { result ≡ (is_outside self.spent || is_bad_counter self.reverted || ergs_past self.caller.ergs_remaining self.closed.ergs_remaining
+            || is_shrunk self.caller self.closed || late) }
+    {
+        // The sums by themselves: of a frame that spent nothing the compiler knows them before.
+        if is_outside(self.spent) | is_bad_counter(self.reverted) {
+            return true;
+        }
+        self.is_past() | is_shrunk(self.caller, self.closed) | late
+    }
+
+    // The first of them, one of which holds.
+    pub fn refusal(self) -> Refusal
+        ensures { result ≡ (if is_outside self.spent then Refusal.PubdataSum else (if is_bad_counter self.reverted then Refusal.RevertCounter
+            else (if ergs_past self.caller.ergs_remaining self.closed.ergs_remaining then Refusal.ErgsSum
+            else (if is_shrunk self.caller self.closed then Refusal.HeapBound else Refusal.Above32Bits)))) }
+    {
+        refusal::first_after(
+            &[
+                (is_outside(self.spent), Refusal::PubdataSum),
+                (is_bad_counter(self.reverted), Refusal::RevertCounter),
+                (self.is_past(), Refusal::ErgsSum),
+                (is_shrunk(self.caller, self.closed), Refusal::HeapBound),
+            ],
+            Refusal::Above32Bits,
+        )
+    }
+
+    // The caller as it goes on after the return r with so many ergs.
+    pub fn resumed(self, r: Record, ergs: u32) -> Frame
+        ensures { result ≡ resumed_with self.caller self.closed (cost_of self.spent) ergs
+            (return_pc (nat_eq r.return_kind 0) r.to_label r.imm_0 self.closed.exception_handler_location self.caller.pc) }
+    {
+        let cost = cost_of(self.spent);
+        let pc = return_pc(
+            r.return_kind == ReturnKind::Ok as u8,
+            r.to_label,
+            r.imm_0,
+            self.closed.exception_handler_location,
+            self.caller.pc,
+        );
+        resumed(self.caller, self.closed, cost, ergs, pc)
+    }
 }
