@@ -1,7 +1,8 @@
 -- The lists of a record's fields. Document 01: "Operation (0 nop, 1 add, 2 sub, 3 near call, 4 return, 5 other)"; "condition 0 to 7 in the order of the Rust's `match`;
 -- source and destination kind (0 register, 1 immediate, 2 push/pop, 3 stack offset, 4 code page, 5 absolute stack)".
-use Rattle.std.specs.Prelude.{ℕ, zero, suc, List, [], ◌∷◌, Result, Ok, Err}
+use Rattle.std.specs.Prelude.{ℕ, zero, suc, List, [], ◌∷◌, Result, Ok, Err, codes}
 use Rattle.rules.specs.declared.kinds.Operation.{Operation}
+use Rattle.rules.specs.declared.kinds.ReturnKind.{ReturnKind}
 use Rattle.rules.specs.declared.kinds.OperandKind.{OperandKind}
 use Rattle.rules.specs.declared.kinds.Condition.{Condition}
 use Rattle.rules.specs.declared.kinds.NoSuchKind.{NoSuchKind}
@@ -31,3 +32,9 @@ operand_numbered n = numbered_in operand_kinds n
 
 abbrev pub condition_numbered : ℕ → Result Condition NoSuchKind
 condition_numbered n = numbered_in condition_kinds n
+
+-- what is printed of a return kind
+abbrev pub return_kind_text : ReturnKind → List ℕ
+return_kind_text ReturnKind.Ok = codes "ok"
+return_kind_text ReturnKind.Revert = codes "revert"
+return_kind_text ReturnKind.Panic = codes "panic"

@@ -1,6 +1,6 @@
 // The lists of a record's fields, and the kinds of memory. A record has their numbers, since one that is in no list has to be answered too.
-ghost use Rattle.std.specs.Prelude.{◌≡◌};
-ghost use Rattle.rules.specs.Kinds.{operation_numbered, operand_numbered, condition_numbered};
+ghost use Rattle.std.specs.Prelude.{◌≡◌, Some};
+ghost use Rattle.rules.specs.Kinds.{operation_numbered, operand_numbered, condition_numbered, return_kind_text};
 
 use std::fmt::{self, Display, Formatter};
 
@@ -55,6 +55,8 @@ pub enum MemoryType {
 pub struct NoSuchKind;
 
 impl Display for ReturnKind {
+    ghost output = { λ kind. Some (return_kind_text kind) };
+
     fn fmt<W: fmt::Write>(&self, f: &mut Formatter<W>) -> fmt::Result {
         f.write_str(match self {
             ReturnKind::Ok => "ok",
@@ -64,6 +66,7 @@ impl Display for ReturnKind {
     }
 }
 
+// Three impls alike: generic over a list they would need a trait that gives each list, with an impl for each again, and macros of our own are refused.
 impl TryFrom<u8> for Operation {
     type Error = NoSuchKind;
 
