@@ -8,7 +8,7 @@ ghost use Rattle.cycle.specs.Tells.{execute_tells};
 use crate::{Executed, Stage, State};
 use refusal::Refusal;
 use rules::kinds::Operation;
-use rules::{Settings, parsing, select};
+use rules::{PrimitiveValue, Settings, parsing, select};
 use u256::U256;
 
 const NOP: u8 = Operation::Nop as u8;
@@ -37,7 +37,11 @@ impl State {
         let instruction = kept.instruction;
         let words = self.registers;
         let pointers = self.pointers;
-        let sources = select::sources(instruction, words, pointers, word, pointer);
+        let read = PrimitiveValue {
+            value: word,
+            is_pointer: pointer,
+        };
+        let sources = select::sources(instruction, words, pointers, read);
         let src0 = sources.src0;
         let src1 = sources.src1;
         let operation = instruction.operation;

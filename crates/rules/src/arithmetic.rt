@@ -1,4 +1,4 @@
-// Add and sub.
+// Add and sub. The operation is a record's number, of which execute asks with 1 and 2 alone; any other has to be answered too, and subtracts.
 ghost use Rattle.std.specs.Prelude.{◌≡◌};
 ghost use Rattle.rules.specs.Arithmetic.{result_of, flags_after};
 
@@ -29,10 +29,6 @@ pub fn flags_after(set: bool, old: Flags, res: (U256, bool)) -> Flags
             greater_than_flag: !zero & !overflow,
         }
     } else {
-        Flags {
-            overflow_or_less_than_flag: old.overflow_or_less_than_flag,
-            equality_flag: old.equality_flag,
-            greater_than_flag: old.greater_than_flag,
-        }
+        old
     }
 }

@@ -39,5 +39,5 @@ pub fn code_wanted(
 ) -> bool
     ensures { result ≡ code_wanted ended page previous_page super_pc previous_super_pc }
 {
-    !ended & (!(page == previous_page) | !(super_pc == previous_super_pc))
+    !ended & ((page != previous_page) | (super_pc != previous_super_pc))
 }

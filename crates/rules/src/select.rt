@@ -7,8 +7,8 @@ use crate::{PrimitiveValue, Record, Sources, parsing};
 use u256::U256;
 
 // By the source kind: the register, the immediate, or what was read; a nop reads nothing.
-fn first_source(r: Record, register: PrimitiveValue, word: U256, pointer: bool) -> PrimitiveValue
-    ensures { result ≡ first_source r register word pointer }
+fn first_source(r: Record, register: PrimitiveValue, read: PrimitiveValue) -> PrimitiveValue
+    ensures { result ≡ first_source r register read.value read.is_pointer }
 {
     let kind = r.source_kind;
     if kind == OperandKind::Register as u8 {
@@ -26,21 +26,12 @@ fn first_source(r: Record, register: PrimitiveValue, word: U256, pointer: bool) 
             is_pointer: false,
         };
     }
-    PrimitiveValue {
-        value: word,
-        is_pointer: pointer,
-    }
+    read
 }
 
 #[tactic(auto, unfolding(crate::specs::Sources::sources_of))]
-pub fn sources(
-    r: Record,
-    words: [U256; 15],
-    pointers: [bool; 15],
-    word: U256,
-    pointer: bool,
-) -> Sources
-    ensures { result ≡ sources_of r words pointers word pointer }
+pub fn sources(r: Record, words: [U256; 15], pointers: [bool; 15], read: PrimitiveValue) -> Sources
+    ensures { result ≡ sources_of r words pointers read.value read.is_pointer }
 {
     let register = PrimitiveValue {
         value: registers::select(words, r.src0),
@@ -50,7 +41,7 @@ pub fn sources(
         value: registers::select(words, r.src1),
         is_pointer: registers::select_pointer(pointers, r.src1),
     };
-    let first = first_source(r, register, word, pointer);
+    let first = first_source(r, register, read);
     if r.swap {
         Sources {
             src0: second,
