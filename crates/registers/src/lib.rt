@@ -54,7 +54,7 @@ pub fn select_pointer(pointers: [bool; 15], n: u8) -> bool
     select_or(pointers, n, false)
 }
 
-// Number 0 stays the empty value, whichever that is. One return of the array at the end: a return in each arm costs a factor of seven.
+// Number 0 stays the empty value, whichever that is. One return of the array at the end: a return in each arm copies the array in each.
 pub fn update<T: Copy>(mut values: [T; 15], n: u8, value: T) -> [T; 15]
     ensures { (empty : T) → result ≡ update_of empty values n value }
 {

@@ -42,6 +42,7 @@ pub fn any_error(e: ErrorFlags) -> bool
     e.not_enough_ergs
 }
 
+// A record's number, since one that is in no list has to be answered too: it holds nowhere.
 pub fn condition_holds(condition: u8, flags: Flags) -> bool
     ensures { result ≡ condition_holds condition flags }
 {

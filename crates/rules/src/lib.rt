@@ -73,7 +73,7 @@ pub struct ErrorFlags {
 }
 
 // No location, or a memory kind (1 stack, 2 code), a page and an index. The narrow field first: a hole before it slows each copy down.
-// No `Option` of a struct, which has 16 bytes in the state and not 12, and whose kind is a number since a state with any number has to be answered.
+// The paper names this form, and no `Option` of a struct; the kind is a number, since a state with any number has to be answered.
 #[derive(Clone, Copy)]
 pub enum Location {
     None,

@@ -1,4 +1,5 @@
-// Where an operand lies, after the Rust's `mem_ops.rs`.
+// Where an operand lies, after the Rust's `mem_ops.rs`. Kinds are a record's numbers: one that is in no list has to be answered too, and has no location. The
+// stack page and sp are two parameters: a struct of both would be made anew for the destination, whose page is the same and whose sp is not.
 ghost use Rattle.std.specs.Prelude.{◌≡◌, if◌then◌else◌, nat_le};
 ghost use Rattle.registers.specs.Registers.{register_of};
 ghost use Rattle.rules.specs.Address.{location_in, vaddr_of, is_stack_kind, lacks_stack_page, source_at, destination_at, source_read, places_of};

@@ -2,7 +2,7 @@
 ghost use Rattle.std.specs.Prelude.{◌≡◌};
 ghost use Rattle.rules.specs.Sizes.{bad_sizes};
 
-// For a store of so many words.
+// For a store of so many words. The limit is cast: `usize` has no `From<u32>`, and `try_from` an error that cannot come.
 pub fn bad_sizes(limit: u32, depth: u32, words: usize) -> bool
     ensures { result ≡ bad_sizes limit depth words }
 {

@@ -14,6 +14,7 @@ pub struct U256 {
 }
 
 impl U256 {
+    // Sum and difference are alike but for the step of a word: the step as a closure would have to be given with its contract, and is no plainer.
     #[tactic(auto, unfolding(crate::specs::U256::sum_of))]
     pub fn overflowing_add(self, other: U256) -> (U256, bool)
         ensures { result ≡ sum_of self other }
@@ -43,7 +44,7 @@ impl U256 {
         self == U256::default()
     }
 
-    // A function for each width: a trait of words has the same line in each impl, and its own members on top.
+    // A function for each width: a trait of words has the same line in each impl, and its own members on top. The casts keep the low bits, which no `From` does.
     #[tactic(auto, unfolding(crate::specs::U256::low_of))]
     pub fn low_u16(self) -> u16
         ensures { result ≡ low_of 16 self }
