@@ -1,6 +1,6 @@
 // The edges of document 01, in its order: those marked P, then the others.
 use crate::case::{Came, Case};
-use crate::shown::{Frames, Index, Kind};
+use crate::shown::{Frames, Index};
 use frame::PubdataCost;
 use rules::kinds::{OperandKind, Operation, ReturnKind};
 use u256::U256;
@@ -143,8 +143,7 @@ fn returned(rt: &impl Print, kind: ReturnKind, caller: i32, counter: i32, child:
     case.state.current.total_pubdata_spent = PubdataCost(child);
     case.state.pubdata_revert_counter = PubdataCost(counter);
     case.caller_pubdata = caller;
-    let name = Kind(kind);
-    let _ = print!(rt; "{name}, caller pubdata {caller}, counter {counter}, child pubdata {child}");
+    let _ = print!(rt; "{kind}, caller pubdata {caller}, counter {counter}, child pubdata {child}");
     let Some(came) = run(rt, case) else {
         return;
     };

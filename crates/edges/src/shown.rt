@@ -1,7 +1,6 @@
-// How a location, an event and a return kind are printed.
+// How a location and an event are printed.
 use cycle::Event;
 use rules::Location;
-use rules::kinds::ReturnKind;
 use std::fmt::{self, Display, Formatter};
 
 // The index of a location.
@@ -31,19 +30,5 @@ impl Display for Frames {
                 write!(f, "frame closed with panicked bit {bit}")
             }
         }
-    }
-}
-
-// The kind of a return.
-#[derive(Clone, Copy)]
-pub(crate) struct Kind(pub ReturnKind);
-
-impl Display for Kind {
-    fn fmt<W: fmt::Write>(&self, f: &mut Formatter<W>) -> fmt::Result {
-        f.write_str(match self.0 {
-            ReturnKind::Ok => "ok",
-            ReturnKind::Revert => "revert",
-            ReturnKind::Panic => "panic",
-        })
     }
 }
