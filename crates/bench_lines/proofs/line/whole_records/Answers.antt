@@ -24,4 +24,6 @@ returns c =
     let want : 0 < length c.in_ok-nop.rest.now = slice_get_within _ _ _ (sym c.in_ok-first.ensures.value) in
     let whole : line_width ≤ length line = omega arith in
     let second : c.in_ok-panic.rest.now ≡ drop (2 * record_width) line = panic.1 ∙ ap (drop record_width) plain.1 ∙ drop-drop record_width record_width line in
-    rw (plain.0, panic.0, nop.0, plain.1, second, part 0 line, part record_width line, part (2 * record_width) line) (grind (arith, nat_tests))
+    let records : record { plain = c.in_ok-plain.plain; panic = c.in_ok-panic.panic; nop = c.in_ok-nop.nop } ≡ line_records line =
+    rw (plain.0, panic.0, nop.0, plain.1, second, part 0 line, part record_width line, part (2 * record_width) line) (grind (arith, nat_tests)) in
+    records
