@@ -10,7 +10,7 @@ use lib.Dec.{eqb, ltb}
 use lib.ListN.{length, drop, drop_of_length-le}
 use lib.Seq.{drop-cons}
 use mir.Val.{bool_byte}
-use borrow.Author.Tests.{ltb-true, lt-ltb}
+use borrow.Author.Tests.{lt-ltb}
 use Rattle.signed.specs.Signed.{fits_signed}
 use Rattle.signed.proofs.SignedLaws.{signed_of_word, word_of_signed}
 use Rattle.frame.specs.declared.Frame.{Frame}
@@ -19,7 +19,6 @@ use Rattle.frame.specs.declared.U128.{U128}
 use Rattle.frame.specs.declared.PubdataCost.{PubdataCost}
 use Rattle.frame.specs.Row.{row_width, row_of, word, address_from, u128_of, pubdata_of, frame_of, good_words, good_row}
 use Rattle.frame.specs.Bounds.{Bounds}
-use Rattle.std.proofs.lemmas.Bool.{and_parts}
 
 -- the frame that `read` puts together
 pub read : (row : List ℕ) (this sender code : Address) (context : U128) (spent : PubdataCost)
@@ -50,25 +49,7 @@ read row this sender code context spent e0 e1 e2 e3 e4 = rw (e0, e1, e2, e3, e4)
 
 -- what the test of a good row tells
 pub bounds : (w : ℕ) (row : List ℕ) → row_width ≤ length row → good_words w row ≡ true → Bounds w row
-bounds w row h e =
-    let q7 = and_parts _ (ltb (word row 25) 2) e in
-    let q6 = and_parts _ (ltb (word row 24) 2) q7.0 in
-    let q5 = and_parts _ (ltb (word row 23) 256) q6.0 in
-    let q4 = and_parts _ (ltb (word row 22) 256) q5.0 in
-    let q3 = and_parts _ (ltb (word row 21) 256) q4.0 in
-    let q2 = and_parts _ (ltb (word row 19) (2 ^ w)) q3.0 in
-    let q1 = and_parts (ltb (word row 17) (2 ^ w)) (ltb (word row 18) (2 ^ w)) q2.0 in
-    record {
-      size = h;
-      sp = ltb-true (word row 17) (2 ^ w) q1.0;
-      pc = ltb-true (word row 18) (2 ^ w) q1.1;
-      handler = ltb-true (word row 19) (2 ^ w) q2.1;
-      this_shard = ltb-true (word row 21) 256 q3.1;
-      caller_shard = ltb-true (word row 22) 256 q4.1;
-      code_shard = ltb-true (word row 23) 256 q5.1;
-      static = ltb-true (word row 24) 2 q6.1;
-      local = ltb-true (word row 25) 2 q7.1;
-    }
+bounds w row h e = grind arith
 
 -- ---- there and back
 bit_back : (b : Bool) → eqb (bool_byte b) 1 ≡ b

@@ -11,13 +11,14 @@ use lib.Dec.{ltb, leb}
 use lib.ListN.{length, take, drop, length-drop, length-append}
 use lib.Seq.{take_all, drop-length, drop-drop, drop_at, take-take, take-append-le, drop-append-add, length-take-le, ext_get_or, get_or-take}
 use borrow.Author.Tests.{lt-ltb, le-ltb, le-leb, ltb-true, ltb-false}
+use Rattle.std.proofs.lemmas.Bool.{cond_both}
 use Rattle.std.proofs.lemmas.List.{drop-take, drop_all}
 use Rattle.frame.specs.declared.Frame.{Frame}
 use Rattle.frame.specs.declared.RowError.{RowError}
 use Rattle.frame.specs.Bounds.{Bounds}
 use Rattle.frame.specs.Row.{row_width, row_of, word, frame_of, good_words, good_row}
 use Rattle.frame.specs.Store.{whole_rows, row_at, store_with, row_number, save_of, saved_store, save_refusal, read_of, read_refusal, saved_ergs}
-use Rattle.frame.proofs.RowLaws.{Ranges, good_of_frame, frame_of_row}
+use Rattle.frame.proofs.RowLaws.{Ranges, bounds, good_of_frame, frame_of_row}
 
 -- a row that the store has lies in it whole
 fits : (n i : ℕ) → i < n / row_width → (i + 1) * row_width ≤ n
@@ -58,24 +59,21 @@ module _ (w : ℕ) (store : List ℕ) (i : ℕ) where
   abbrev pub Read : Result Frame RowError → Type 0
   Read r = (r ≡ read_of w store i) × (row_number r ≡ read_refusal w store i)
 
-  -- the first words of the part of the store that begins at the row
-  pub lent_row : i < whole_rows store → take row_width (take (length store - i * row_width) (drop (i * row_width) store)) ≡ row_at store i
-  lent_row h = take-take row_width (length store - i * row_width) (drop (i * row_width) store) (omega (arith, fits (length store) i h))
-
   pub read_missing : whole_rows store ≤ i → Read (Err RowError.Missing)
   unfolding read_of
   read_missing h = rw (le-ltb i (whole_rows store) h) (refl, refl)
 
-  -- the words are those that the code reads
-  module _ (h : i < whole_rows store) (words : List ℕ) (same : words ≡ row_at store i) (b : Bool) (e : b ≡ good_words w words) where
+  -- the words are the first of the part of the store that begins at the row
+  module _ (h : i < whole_rows store) (words : List ℕ) (first : words ≡ take row_width (take (length store - i * row_width) (drop (i * row_width) store)))
+      (b : Bool) (e : b ≡ good_words w words) where
+    same : words ≡ row_at store i
+    same = first ∙ take-take row_width (length store - i * row_width) (drop (i * row_width) store) (omega (arith, fits (length store) i h))
+
     sized : leb row_width (length (row_at store i)) ≡ true
     sized = le-leb row_width (length (row_at store i)) (omega (arith, row_size store i h))
 
-    pub bounds : b ≡ true → Bounds w words
-    bounds t =
-        let size : row_width ≤ length words = rw same (omega (arith, row_size store i h)) in
-        let good : good_words w words ≡ true = rw (← e) t in
-        grind arith
+    pub good_bounds : b ≡ true → Bounds w words
+    good_bounds t = bounds w words (rw same (omega (arith, row_size store i h))) (sym e ∙ t)
 
     pub read_good : b ≡ true → (f : Frame) → f ≡ frame_of words → Read (Ok f)
     unfolding read_of
@@ -97,7 +95,7 @@ module _ (store : List ℕ) (i : ℕ) (f : Frame) where
 
   -- what a callee wrote at the front of the part that begins at the row, said of the whole store
   module _ (h : i < whole_rows store) (last : List ℕ)
-      (e : last ≡ row_of f ++ drop row_width (take (length store - i * row_width) (drop (i * row_width) store))) where
+      (e : last ≡ (let part : List ℕ = take (length store - i * row_width) (drop (i * row_width) store) in cond (leb row_width (length part)) (row_of f ++ drop row_width part) part)) where
     written : take (i * row_width) store ++ (last ++ drop (length store - i * row_width) (drop (i * row_width) store)) ≡ store_with store i f
     written =
         let all : take (length store - i * row_width) (drop (i * row_width) store) ≡ drop (i * row_width) store =
@@ -106,7 +104,9 @@ module _ (store : List ℕ) (i : ℕ) (f : Frame) where
         ap (λ (n : ℕ). drop n (drop (i * row_width) store)) (sym (length-drop (i * row_width) store)) ∙ drop-length (drop (i * row_width) store) in
         let next : drop row_width (drop (i * row_width) store) ≡ drop ((i + 1) * row_width) store =
         drop-drop row_width (i * row_width) store ∙ ap (λ (n : ℕ). drop n store) (next_row i) in
-        rw (e, all, none, append-nil (row_of f ++ drop row_width (drop (i * row_width) store)), next)
+        let room : leb row_width (length (drop (i * row_width) store)) ≡ true =
+        le-leb row_width (length (drop (i * row_width) store)) (omega (arith, length-drop (i * row_width) store, fits (length store) i h)) in
+        rw (e, all, room, none, append-nil (row_of f ++ drop row_width (drop (i * row_width) store)), next)
 
     pub save_done : Saves (Ok tt) (take (i * row_width) store ++ (last ++ drop (length store - i * row_width) (drop (i * row_width) store)))
     unfolding save_of saved_store
@@ -143,11 +143,7 @@ module _ (store : List ℕ) (i : ℕ) (f : Frame) where
   -- whatever a store with the row has, and the store itself, the saved store has
   saved : (P : List ℕ → Type 0) → (i < whole_rows store → P (store_with store i f)) → P store → P (saved_store store i f)
   unfolding saved_store
-  saved P done left = go (ltb i (whole_rows store)) refl
-    where
-      go : (t : Bool) → ltb i (whole_rows store) ≡ t → P (cond t (store_with store i f) store)
-      go true e = done (ltb-true i (whole_rows store) e)
-      go false e = left
+  saved P done left = cond_both (ltb i (whole_rows store)) _ _ P (λ e. done (ltb-true i (whole_rows store) e)) (λ e. left)
 
   pub saved_length : length (saved_store store i f) ≡ length store
   saved_length = saved (λ s. length s ≡ length store) with_length refl

@@ -1,11 +1,12 @@
 // A frame's row of words.
-ghost use Rattle.std.specs.Prelude.{◌≡◌, ◌++◌, ◌+◌, ◌/◌, ◌%◌, ◌^◌, ◌≤◌, length, drop};
+ghost use Rattle.std.specs.Prelude.{◌≡◌, ◌++◌, ◌+◌, ◌/◌, ◌%◌, ◌^◌, ◌≤◌, if◌then◌else◌, leb, length, drop};
 ghost use Rattle.signed.specs.Signed.{word_of};
 ghost use Rattle.frame.specs.Bounds.{Bounds};
 ghost use Rattle.frame.specs.Row.{row_width, row_of, frame_of, good_words, pubdata_of, address_from, u128_of};
 
 use crate::{Address, Frame, PubdataCost, ROW_WIDTH, U128};
 
+// Low and high bits are cast after the division: a `try_from` would have an error that cannot come.
 fn low_word(x: u64) -> u32
     ensures { result ≡ x % 2 ^ 32 }
 {
@@ -71,22 +72,13 @@ pub(crate) fn row_words(f: Frame) -> [u32; ROW_WIDTH]
     ]
 }
 
-// Copies a row to the front of the part. `copy_from_slice` becomes a call here, which costs a cycle some thirty instructions.
-fn copy_words(part: &mut [u32], row: [u32; ROW_WIDTH])
-    requires { row_width ≤ length part.old }
-    ensures { part.new ≡ row ++ drop row_width part.old }
-{
-    for k in 0..ROW_WIDTH {
-        part[k] = row[k];
-    }
-}
-
-// Writes a frame's row to the part of the store that begins at the row.
+// Writes a frame's row to the part of the store that begins at the row: the form that the paper names. A part that has no room for it stays.
 pub(crate) fn write(part: &mut [u32], f: Frame)
-    requires { row_width ≤ length part.old }
-    ensures { part.new ≡ row_of f ++ drop row_width part.old }
+    ensures { part.new ≡ (if leb row_width (length part.old) then row_of f ++ drop row_width part.old else part.old) }
 {
-    copy_words(part, row_words(f));
+    if let Some(row) = part.first_chunk_mut() {
+        *row = row_words(f);
+    }
 }
 
 pub(crate) fn is_good(part: &[u32; ROW_WIDTH]) -> bool
@@ -131,7 +123,7 @@ fn u128_of(w0: u32, w1: u32, w2: u32, w3: u32) -> U128
     }
 }
 
-// The frame of a good row.
+// The frame of a good row, of which no cast loses anything. Tested and read in one, by `try_from` with `?`, a listing's cycle takes 110.7 instructions and not 101.1.
 pub(crate) fn read(part: &[u32; ROW_WIDTH]) -> Frame
     requires { Bounds 16 part.now }
     ensures { result ≡ frame_of part.now }
