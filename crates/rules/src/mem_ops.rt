@@ -18,9 +18,10 @@ pub fn vaddr(register: U256, imm: u16) -> u16
 pub fn is_stack_kind(kind: u8) -> bool
     ensures { result ≡ is_stack_kind kind }
 {
-    (kind == OperandKind::PushPop as u8)
-        | (kind == OperandKind::StackOffset as u8)
-        | (kind == OperandKind::AbsoluteStack as u8)
+    matches!(
+        OperandKind::try_from(kind),
+        Ok(OperandKind::PushPop | OperandKind::StackOffset | OperandKind::AbsoluteStack)
+    )
 }
 
 // A stack kind, and a stack page of more than 32 bits.

@@ -8,7 +8,7 @@ use crate::{Record, Records};
 fn is_operation(r: Record) -> bool
     ensures { result ≡ nat_le r.operation 5 }
 {
-    r.operation <= Operation::Other as u8
+    Operation::try_from(r.operation).is_ok()
 }
 
 fn is_return_kind(r: Record) -> bool
@@ -20,7 +20,7 @@ fn is_return_kind(r: Record) -> bool
 fn is_condition(r: Record) -> bool
     ensures { result ≡ nat_le r.condition 7 }
 {
-    r.condition <= Condition::GtOrLt as u8
+    Condition::try_from(r.condition).is_ok()
 }
 
 fn good_kinds(r: Record) -> bool

@@ -10,23 +10,18 @@ use u256::U256;
 fn first_source(r: Record, register: PrimitiveValue, read: PrimitiveValue) -> PrimitiveValue
     ensures { result ≡ first_source r register read.value read.is_pointer }
 {
-    let kind = r.source_kind;
-    if kind == OperandKind::Register as u8 {
-        return register;
-    }
-    if kind == OperandKind::Immediate as u8 {
-        return PrimitiveValue {
+    match OperandKind::try_from(r.source_kind) {
+        Ok(OperandKind::Register) => register,
+        Ok(OperandKind::Immediate) => PrimitiveValue {
             value: U256::from(u64::from(r.imm_0)),
             is_pointer: false,
-        };
-    }
-    if parsing::is_nop(r) {
-        return PrimitiveValue {
+        },
+        _ if parsing::is_nop(r) => PrimitiveValue {
             value: registers::empty_word(),
             is_pointer: false,
-        };
+        },
+        _ => read,
     }
-    read
 }
 
 #[tactic(auto, unfolding(crate::specs::Sources::sources_of))]
