@@ -16,7 +16,7 @@ pub fn sub_pc(pc: u16) -> u16
     pc % 4
 }
 
-// Sub pc 0 is the highest word.
+// Sub pc 0 is the highest word. The words of a word have names and no index (docs/DECISIONS.md, D35), so a match picks one.
 #[tactic(auto, unfolding(crate::specs::Code::code_bits))]
 pub fn code_bits(word: U256, sub_pc: u16) -> u64
     ensures { result ≡ code_bits word sub_pc }

@@ -1,4 +1,5 @@
-// The lists of a record's fields, and the kinds of memory. A record has their numbers, since one that is in no list has to be answered too.
+// The lists of a record's fields, and the kinds of memory. A record has their numbers, since one that is in no list has to be answered too. An enum is cast
+// to its number where it is written or compared: a `From` for each would hold that cast and no more.
 ghost use Rattle.std.specs.Prelude.{◌≡◌, Some};
 ghost use Rattle.rules.specs.Kinds.{operation_numbered, operand_numbered, condition_numbered, return_kind_text};
 

@@ -75,7 +75,7 @@ pub fn source_at(kind: u8, stack_page: u32, code_page: u32, sp: u16, vaddr: u16)
     }
 }
 
-// A destination: push/pop is a push. Kinds 1 and 4 are refused before.
+// A destination: push/pop is a push. Kinds 1 and 4 are refused before. Not one function with the source's: a pop reads where sp has moved to, a push writes before it moves.
 #[tactic(auto, unfolding(crate::specs::Address::destination_at))]
 pub fn destination_at(kind: u8, stack_page: u32, sp: u16, vaddr: u16) -> Located
     ensures { result ≡ destination_at 16 kind stack_page sp vaddr }

@@ -11,6 +11,7 @@ fn is_operation(r: Record) -> bool
     Operation::try_from(r.operation).is_ok()
 }
 
+// By a bound, as return kinds have no `TryFrom`: nobody reads one of a number.
 fn is_return_kind(r: Record) -> bool
     ensures { result ≡ nat_le r.return_kind 2 }
 {
@@ -23,6 +24,7 @@ fn is_condition(r: Record) -> bool
     Condition::try_from(r.condition).is_ok()
 }
 
+// By bounds: what is asked is whether the numbers are in the list, and of a destination which two of it are not meant.
 fn good_kinds(r: Record) -> bool
     ensures { result ≡ good_kinds r }
 {

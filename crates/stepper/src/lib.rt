@@ -55,6 +55,7 @@ fn refused_at(state: State, refusal: Refusal, stage: Stage) -> Cycled
     }
 }
 
+// No `?`: a refusal goes back with the state of the stage that gave it.
 #[tactic(auto, unfolding(crate::specs::Cycle::cycle_of, crate::specs::Cycle::cycle_store))]
 pub fn cycle(state: State, input: Input, store: &mut [u32]) -> Cycled
     ensures { (result ≡ cycle_of input state store.old) × (store.new ≡ cycle_store input state store.old) }
