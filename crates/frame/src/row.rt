@@ -1,8 +1,8 @@
 // A frame's row of words.
-ghost use Rattle.std.specs.Prelude.{◌≡◌, ◌++◌, ◌+◌, ◌/◌, ◌%◌, ◌^◌, ◌≤◌, if◌then◌else◌, leb, length, drop};
+ghost use Rattle.std.specs.Prelude.{◌≡◌, ◌++◌, ◌/◌, ◌%◌, ◌^◌, if◌then◌else◌, leb, length, drop};
 ghost use Rattle.signed.specs.Signed.{word_of};
 ghost use Rattle.frame.specs.Bounds.{Bounds};
-ghost use Rattle.frame.specs.Row.{row_width, row_of, frame_of, good_words, pubdata_of, address_from, u128_of};
+ghost use Rattle.frame.specs.Row.{row_width, row_of, frame_of, good_words, pubdata_of, u128_of};
 
 use crate::{Address, Frame, PubdataCost, ROW_WIDTH, U128};
 
@@ -81,36 +81,23 @@ pub(crate) fn write(part: &mut [u32], f: Frame)
     }
 }
 
-pub(crate) fn is_good(part: &[u32; ROW_WIDTH]) -> bool
-    ensures { result ≡ good_words 16 part.now }
+pub(crate) fn is_good(row: &[u32; ROW_WIDTH]) -> bool
+    ensures { result ≡ good_words 16 row.now }
 {
-    (part[17] < 0x1_0000)
-        & (part[18] < 0x1_0000)
-        & (part[19] < 0x1_0000)
-        & (part[21] < 256)
-        & (part[22] < 256)
-        & (part[23] < 256)
-        & (part[24] < 2)
-        & (part[25] < 2)
+    (row[17] < 0x1_0000)
+        & (row[18] < 0x1_0000)
+        & (row[19] < 0x1_0000)
+        & (row[21] < 256)
+        & (row[22] < 256)
+        & (row[23] < 256)
+        & (row[24] < 2)
+        & (row[25] < 2)
 }
 
 fn pubdata_of(word: u32) -> PubdataCost
     ensures { result ≡ pubdata_of word }
 {
     PubdataCost(signed::from_word(word))
-}
-
-fn address_from(part: &[u32; ROW_WIDTH], k: usize) -> Address
-    requires { k + 5 ≤ row_width }
-    ensures { result ≡ address_from part.now k }
-{
-    Address {
-        a0: part[k],
-        a1: part[k + 1],
-        a2: part[k + 2],
-        a3: part[k + 3],
-        a4: part[k + 4],
-    }
 }
 
 // Four words, the lowest first.
@@ -123,35 +110,73 @@ fn u128_of(w0: u32, w1: u32, w2: u32, w3: u32) -> U128
     }
 }
 
-// The frame of a good row, of which no cast loses anything. Tested and read in one, by `try_from` with `?`, a listing's cycle takes 110.7 instructions and not 101.1.
-pub(crate) fn read(part: &[u32; ROW_WIDTH]) -> Frame
-    requires { Bounds 16 part.now }
-    ensures { result ≡ frame_of part.now }
+// Five words, the first byte highest.
+fn address_of(a0: u32, a1: u32, a2: u32, a3: u32, a4: u32) -> Address
+    ensures { result ≡ record { a0 = a0; a1 = a1; a2 = a2; a3 = a3; a4 = a4 } }
 {
-    let this = address_from(part, 0);
-    let sender = address_from(part, 5);
-    let code = address_from(part, 10);
-    let context = u128_of(part[26], part[27], part[28], part[29]);
-    let spent = pubdata_of(part[32]);
+    Address { a0, a1, a2, a3, a4 }
+}
+
+// The frame of a good row, of which no cast loses anything. Tested and read in one, by `try_from` with `?`, a listing's cycle takes 110.7 instructions and not 101.1.
+pub(crate) fn read(row: &[u32; ROW_WIDTH]) -> Frame
+    requires { Bounds 16 row.now }
+    ensures { result ≡ frame_of row.now }
+{
+    let [
+        this0,
+        this1,
+        this2,
+        this3,
+        this4,
+        sender0,
+        sender1,
+        sender2,
+        sender3,
+        sender4,
+        code0,
+        code1,
+        code2,
+        code3,
+        code4,
+        base_memory_page,
+        code_page,
+        sp,
+        pc,
+        handler,
+        ergs_remaining,
+        this_shard,
+        caller_shard,
+        code_shard,
+        is_static,
+        is_local,
+        context0,
+        context1,
+        context2,
+        context3,
+        heap_bound,
+        aux_heap_bound,
+        spent,
+        stipend,
+    ] = *row;
     Frame {
-        this_address: this,
-        msg_sender: sender,
-        code_address: code,
-        base_memory_page: part[15],
-        code_page: part[16],
-        sp: part[17] as u16,
-        pc: part[18] as u16,
-        exception_handler_location: part[19] as u16,
-        ergs_remaining: part[20],
-        this_shard_id: part[21] as u8,
-        caller_shard_id: part[22] as u8,
-        code_shard_id: part[23] as u8,
-        is_static: part[24] == 1,
-        is_local_frame: part[25] == 1,
-        context_u128_value: context,
-        heap_bound: part[30],
-        aux_heap_bound: part[31],
-        total_pubdata_spent: spent,
-        stipend: part[33],
+        this_address: address_of(this0, this1, this2, this3, this4),
+        msg_sender: address_of(sender0, sender1, sender2, sender3, sender4),
+        code_address: address_of(code0, code1, code2, code3, code4),
+        base_memory_page,
+        code_page,
+        sp: sp as u16,
+        pc: pc as u16,
+        exception_handler_location: handler as u16,
+        ergs_remaining,
+        this_shard_id: this_shard as u8,
+        caller_shard_id: caller_shard as u8,
+        code_shard_id: code_shard as u8,
+        is_static: is_static == 1,
+        is_local_frame: is_local == 1,
+        context_u128_value: u128_of(context0, context1, context2, context3),
+        heap_bound,
+        aux_heap_bound,
+        total_pubdata_spent: pubdata_of(spent),
+        stipend,
     }
 }
