@@ -75,6 +75,7 @@ fn start_progress(ergs: u32) -> Progress
 }
 
 // By an index: std's chunks ask that the width is not 0, and `as_chunks` that a line's size in memory is below 2^63, which the proof does not have of any T and WIDTH, and `run` may not ask.
+// By `cycle()` over lines an opaque cycle took 465.8 instructions, where it took 430 by an index (docs/SPEED.md).
 fn next_line(at: usize, width: usize, words: usize) -> usize
     requires { at + width ≤ words }
     ensures { result ≡ next_line width words at }
@@ -144,6 +145,7 @@ pub fn run<T, B: Benchmark<T, WIDTH>, const WIDTH: usize>(
         run.at = next_line(run.at, WIDTH, lines.len());
         let ran = bench.step(run.state, line, store);
         run.state = ran.state;
+        // not the range's own number: what is told is the run's, and the run alone lasts to its end
         run.begun += 1;
         match ran.charge {
             Ok(charge) => run.charged = run.charged.wrapping_add(u64::from(charge)),

@@ -12,6 +12,7 @@ const RECORD: usize = 19;
 pub const LINE: usize = 3 * RECORD + 1;
 
 // A field of a record: of a number the lowest bits of its word, by a cast, since no `From` takes them; yes is any word but 0.
+// Three impls are alike: the width stands in the cast, and macros of our own are refused.
 trait Field {
     ghost of_word: { ℕ → Self };
 

@@ -1,6 +1,6 @@
 // The code query and fetch, from the Rust's `cycle.rs`.
 ghost use Rattle.std.specs.Prelude.{◌≡◌};
-ghost use Rattle.cycle.specs.Fetch.{query_of, location_if, fetched_state, code_answer, fetch_refusal, fetch_of};
+ghost use Rattle.cycle.specs.Fetch.{code_wanted, query_of, location_if, fetched_state, code_answer, fetch_refusal, fetch_of};
 ghost use Rattle.refusal.specs.Refusal.{refusal_number};
 ghost use Rattle.cycle.specs.Answers.{fetch_case, location_case};
 ghost use Rattle.cycle.specs.Tells.{query_tells, fetch_tells};
@@ -48,21 +48,25 @@ impl State {
         next
     }
 
+    fn wants_code(self) -> bool
+        ensures { result ≡ code_wanted self }
+    {
+        fetch::code_wanted(
+            self.is_ended(),
+            self.current.code_page,
+            self.previous_code_memory_page,
+            fetch::super_pc(self.current.pc),
+            self.previous_super_pc,
+        )
+    }
+
     // Whether a code read is wanted, and from where.
     #[tactic(auto, unfolding(crate::specs::Fetch::query_of))]
     pub fn code_query(self) -> Location
         ensures { (result ≡ query_of self) × (location_case result ≡ query_tells self) }
     {
-        let super_pc = fetch::super_pc(self.current.pc);
         let page = self.current.code_page;
-        let wanted = fetch::code_wanted(
-            self.is_ended(),
-            page,
-            self.previous_code_memory_page,
-            super_pc,
-            self.previous_super_pc,
-        );
-        query_of(wanted, page, super_pc)
+        query_of(self.wants_code(), page, fetch::super_pc(self.current.pc))
     }
 
     // The word is the one that the query asked for, and is not looked at where it asked for none.
@@ -86,14 +90,7 @@ impl State {
         }
         let pc = self.current.pc;
         let previous = self.previous_code_word;
-        let wanted = fetch::code_wanted(
-            ended,
-            self.current.code_page,
-            self.previous_code_memory_page,
-            fetch::super_pc(pc),
-            self.previous_super_pc,
-        );
-        let read = wanted.then_some(word);
+        let read = self.wants_code().then_some(word);
         let bits = fetch::code_bits(read.unwrap_or(previous), fetch::sub_pc(pc));
         let next = self.fetched(read);
         Staged {

@@ -94,16 +94,7 @@ impl State {
             instruction: Record::default(),
             write: Location::None,
         };
-        // Word by word: a copy of the whole word keeps the state in memory, and costs a factor of two.
-        let previous = self.previous_code_word;
-        let word = U256 {
-            w0: previous.w0,
-            w1: previous.w1,
-            w2: previous.w2,
-            w3: previous.w3,
-        };
         let mut next = self.apart();
-        next.previous_code_word = word;
         next.timestamp = time;
         next.monotonic_cycle_counter = counter;
         next.kept = kept;
@@ -179,6 +170,7 @@ impl State {
         )
     }
 
+    // Of any stage. A cycle's refusal names its stage, and a benchmark's has a charge: three types, and three functions.
     pub(crate) fn refused<A>(self, refusal: Refusal) -> Staged<A>
         ensures { result ≡ record { state = self; answer = Err refusal } }
     {

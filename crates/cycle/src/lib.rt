@@ -15,7 +15,7 @@ use refusal::Refusal;
 use rules::{ErrorFlags, Flags, Location, PrimitiveValue, Record};
 use u256::U256;
 
-// The stages of a cycle, in turn.
+// The stages of a cycle, in turn. Cast to its number where a state's stage is written or compared: a `From` would hold that cast and no more.
 #[derive(Clone, Copy, Debug, PartialEq, Eq)]
 pub enum Stage {
     Fetch,

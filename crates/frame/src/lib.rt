@@ -26,7 +26,7 @@ pub struct Address {
     pub a4: u32,
 }
 
-// The Rust's u128.
+// The Rust's u128, as the two words that document 01 makes of it (docs/DECISIONS.md, D35).
 #[derive(Clone, Copy, Default)]
 pub struct U128 {
     pub low: u64,
@@ -125,7 +125,7 @@ pub fn good_row(words: &[u32]) -> bool
     row::is_good(row)
 }
 
-// Rows and depths have 32 bits. Where they count words they are cast: `usize` has no `From<u32>`, and `try_from` an error that cannot come.
+// Rows and depths have 32 bits. Where they count rows or words they are cast: `usize` has no `From<u32>`, and `try_from` an error that cannot come.
 
 // Saves a frame as row i: the row is written through the part of the store that begins at it.
 pub fn save_frame(store: &mut [u32], i: u32, f: Frame) -> Result<(), RowError>
@@ -141,7 +141,7 @@ pub fn save_frame(store: &mut [u32], i: u32, f: Frame) -> Result<(), RowError>
     Ok(())
 }
 
-// Reads row i. By `as_chunks` and `get` an opaque cycle takes 480.1 instructions and not 453.1.
+// Reads row i. The test and the place are those of `save_frame`: a function of both would say again what the two lines say. By `as_chunks` and `get` an opaque cycle takes 480.1 instructions and not 453.1.
 pub fn read_frame(store: &[u32], i: u32) -> Result<Frame, RowError>
     ensures { (result ≡ read_of 16 store.now i) × (row_number result ≡ read_refusal 16 store.now i) }
 {

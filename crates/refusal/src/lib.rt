@@ -43,6 +43,7 @@ impl Refusal {
     pub fn number(self) -> u32
         ensures { result ≡ paper_number self }
     {
+        // a `From` would hold this cast and no more
         self as u32
     }
 }

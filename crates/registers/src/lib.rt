@@ -13,6 +13,7 @@ pub fn empty_word() -> U256
     U256::default()
 }
 
+// No crate here calls it: it stays since it was promised. Not one function with rules' `either`, which copies a record field by field.
 pub fn either_word(first: bool, a: U256, b: U256) -> U256
     ensures { result ≡ cond first a b }
 {

@@ -110,6 +110,7 @@ fn read_of(nop: bool, source: Location) -> Location
 }
 
 // The vaddr of an operand in memory, and 0 of one that is not: nobody looks at that, so that no register has to be picked for it.
+// By a bound, which asks for both kinds that are not in memory at once.
 fn memory_vaddr(kind: u8, registers: [U256; 15], n: u8, imm: u16) -> u16
     ensures { result ≡ (if nat_le kind 1 then 0 else vaddr_of 16 (register_of registers n) imm) }
 {

@@ -84,21 +84,6 @@ pub fn is_shrunk(caller: Frame, closed: Frame) -> bool
     (closed.heap_bound < caller.heap_bound) | (closed.aux_heap_bound < caller.aux_heap_bound)
 }
 
-#[tactic(auto, unfolding(crate::specs::Ret::resumed_with))]
-fn resumed(caller: Frame, closed: Frame, pubdata: PubdataCost, ergs: u32, pc: u16) -> Frame
-    ensures { result ≡ resumed_with caller closed pubdata ergs pc }
-{
-    let heap = closed.heap_bound;
-    let aux = closed.aux_heap_bound;
-    let mut f = caller.apart();
-    f.heap_bound = heap;
-    f.aux_heap_bound = aux;
-    f.total_pubdata_spent = pubdata;
-    f.ergs_remaining = ergs;
-    f.pc = pc;
-    f
-}
-
 // A frame that closes, with its caller, and what the caller's pubdata and the revert counter are after it.
 #[derive(Clone, Copy)]
 pub struct Closing {
@@ -145,6 +130,7 @@ impl Closing {
     }
 
     // The caller as it goes on after the return r with so many ergs.
+    #[tactic(auto, unfolding(crate::specs::Ret::resumed_with))]
     pub fn resumed(self, r: Record, ergs: u32) -> Frame
         ensures { result ≡ resumed_with self.caller self.closed (cost_of self.spent) ergs
             (return_pc (nat_eq r.return_kind 0) r.to_label r.imm_0 self.closed.exception_handler_location self.caller.pc) }
@@ -157,6 +143,14 @@ impl Closing {
             self.closed.exception_handler_location,
             self.caller.pc,
         );
-        resumed(self.caller, self.closed, cost, ergs, pc)
+        let heap = self.closed.heap_bound;
+        let aux = self.closed.aux_heap_bound;
+        let mut f = self.caller.apart();
+        f.heap_bound = heap;
+        f.aux_heap_bound = aux;
+        f.total_pubdata_spent = cost;
+        f.ergs_remaining = ergs;
+        f.pc = pc;
+        f
     }
 }

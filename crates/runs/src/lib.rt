@@ -21,7 +21,7 @@ pub struct Ran {
     pub answer: Result<(), Refusal>,
 }
 
-// An add and a call have a return kind as well: number 0, that of ok.
+// An add and a call have a return kind as well: number 0, that of ok. One match, an expression for each op: a table would need an index of the op.
 fn record_of(op: Op, price: u32) -> Record
     ensures { result ≡ op_record op price }
 {

@@ -15,7 +15,7 @@ fn bad_entry(size: usize, limit: u32, before: u32, after: u32) -> bool
     (size < limit as usize + 1) | (limit < before) | (limit < after) | (1 < before.abs_diff(after))
 }
 
-// Enters the charge of a cycle that led from one depth to another.
+// Enters the charge of a cycle that led from one depth to another. The limit and the depths are parameters and no struct: document 01 names an entry so.
 #[tactic(auto, unfolding(crate::specs::Tally::enter_of, crate::specs::Tally::tally_after))]
 pub fn enter(
     tally: &mut [u64],

@@ -71,7 +71,7 @@ pub struct Writer<'a> {
 impl<'a> Writer<'a> {
     ghost use Rattle.text.specs.Bytes.{Wrote};
 
-    // Not `put_bytes(&[byte])`, which copies by a call: nearbook then takes 1,084 instructions for a line, and so 908.
+    // Not `put_bytes(&[byte])`, which copies by a call: nearbook then takes 1,084 instructions for a line of a list, and not 908 (docs/SPEED.md).
     pub fn put_byte(&mut self, byte: u8)
         ensures { Wrote self.old (byte ∷ []) self.new }
     {

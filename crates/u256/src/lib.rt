@@ -44,7 +44,8 @@ impl U256 {
         self == U256::default()
     }
 
-    // A function for each width: a trait of words has the same line in each impl, and its own members on top. The casts keep the low bits, which no `From` does.
+    // A function for each width, named by it: a trait, as the benchmarks have for nineteen fields, would name it in the type at each call. The casts keep the low bits,
+    // which no `From` does.
     #[tactic(auto, unfolding(crate::specs::U256::low_of))]
     pub fn low_u16(self) -> u16
         ensures { result ≡ low_of 16 self }
