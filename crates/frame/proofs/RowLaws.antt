@@ -14,38 +14,8 @@ use borrow.Author.Tests.{lt-ltb}
 use Rattle.signed.specs.Signed.{fits_signed}
 use Rattle.signed.proofs.SignedLaws.{signed_of_word, word_of_signed}
 use Rattle.frame.specs.declared.Frame.{Frame}
-use Rattle.frame.specs.declared.Address.{Address}
-use Rattle.frame.specs.declared.U128.{U128}
-use Rattle.frame.specs.declared.PubdataCost.{PubdataCost}
-use Rattle.frame.specs.Row.{row_width, row_of, word, address_from, u128_of, pubdata_of, frame_of, good_words, good_row}
+use Rattle.frame.specs.Row.{row_width, row_of, word, frame_of, good_words, good_row}
 use Rattle.frame.specs.Bounds.{Bounds}
-
--- the frame that `read` puts together
-pub read : (row : List ℕ) (this sender code : Address) (context : U128) (spent : PubdataCost)
-    → this ≡ address_from row 0 → sender ≡ address_from row 5 → code ≡ address_from row 10
-    → context ≡ u128_of (word row 26) (word row 27) (word row 28) (word row 29) → spent ≡ pubdata_of (word row 32)
-    → ◌≡◌ {A = Frame} (record {
-      this_address = this;
-      msg_sender = sender;
-      code_address = code;
-      base_memory_page = word row 15;
-      code_page = word row 16;
-      sp = word row 17;
-      pc = word row 18;
-      exception_handler_location = word row 19;
-      ergs_remaining = word row 20;
-      this_shard_id = word row 21;
-      caller_shard_id = word row 22;
-      code_shard_id = word row 23;
-      is_static = eqb (word row 24) 1;
-      is_local_frame = eqb (word row 25) 1;
-      context_u128_value = context;
-      heap_bound = word row 30;
-      aux_heap_bound = word row 31;
-      total_pubdata_spent = spent;
-      stipend = word row 33;
-    }) (frame_of row)
-read row this sender code context spent e0 e1 e2 e3 e4 = rw (e0, e1, e2, e3, e4)
 
 -- what the test of a good row tells
 pub bounds : (w : ℕ) (row : List ℕ) → row_width ≤ length row → good_words w row ≡ true → Bounds w row

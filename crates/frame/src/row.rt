@@ -117,7 +117,8 @@ fn address_of(a0: u32, a1: u32, a2: u32, a3: u32, a4: u32) -> Address
     Address { a0, a1, a2, a3, a4 }
 }
 
-// The frame of a good row, of which no cast loses anything. Tested and read in one, by `try_from` with `?`, a listing's cycle takes 110.7 instructions and not 101.1.
+// The frame of a good row, of which no cast loses anything. By `try_from` with `?`, which tests and reads in one, a listing's cycle takes 110.7 instructions,
+// and 101.1 where the test comes first, in trials that took the row by `as_chunks`; as it stands it takes 100.4 (docs/SPEED.md).
 pub(crate) fn read(row: &[u32; ROW_WIDTH]) -> Frame
     requires { Bounds 16 row.now }
     ensures { result ≡ frame_of row.now }
