@@ -18,7 +18,7 @@ fn refused(state: State, refusal: Refusal) -> CycleOutcome
     ensures { result ≡ record { state = state; charge = Err refusal } }
 {
     CycleOutcome {
-        state,
+        state: state.apart(),
         charge: Err(refusal),
     }
 }
@@ -57,7 +57,7 @@ fn cycle_by_stages(
         return refused(executed.state, refusal);
     }
     CycleOutcome {
-        state: executed.state,
+        state: executed.state.apart(),
         charge: Ok(charge),
     }
 }

@@ -33,13 +33,13 @@ pub refused : (settings : Settings) (s : State) (store : List ℕ) (sizes : Bool
     → (turn : Bool) → turn ≡ out_of_turn decoded s → (good : Bool) → good ≡ good_record (record_of s) → (lacking : Bool) → lacking ≡ lacks_stack_page (record_of s) s.current.base_memory_page
     → (sizes || turn || not good || lacking) ≡ true
     → (q : Refusal) → q ≡ cond sizes Refusal.Sizes (cond turn Refusal.Turn (cond (not good) Refusal.Record Refusal.Above32Bits))
-    → (kept : State) → kept ≡ s → (r : Staged OperandsAnswer) → r ≡ record { state = kept; answer = Err q }
+    → (r : Staged OperandsAnswer) → r ≡ record { state = s; answer = Err q }
     → (r ≡ operands_of settings s store) × (refusal_number r.answer ≡ operands_refusal settings s store) × (operands_case r.answer ≡ operands_tells settings s store)
 unfolding operands_of
-refused settings s store sizes ez turn eu good eg lacking el t q eq kept ek r er =
+refused settings s store sizes ez turn eu good eg lacking el t q eq r er =
     let k = refused_first s (operands_done 16 s) (operands_checks settings s store) tt (rw (← ez, ← eu, ← eg, ← el) t) q
     (rw (eq, ← ez, ← eu, ← eg) (number sizes turn (not good))) in
-    rw (er, ek) (k.0, k.1, rw k.2 refl)
+    rw er (k.0, k.1, rw k.2 refl)
   where
     number : (a b c : Bool)
         → paper_number (cond a Refusal.Sizes (cond b Refusal.Turn (cond c Refusal.Record Refusal.Above32Bits))) ≡ cond a 1 (cond b 2 (cond c 3 14))

@@ -54,8 +54,10 @@ pub(crate) fn write_of(location: Location, time: u32, value: PrimitiveValue) -> 
 }
 
 impl State {
-    // The same state, each narrow field copied by itself: several in one piece cost shifts in each cycle.
-    pub(crate) fn apart(mut self) -> State
+    // The same state, each narrow field copied by itself: several in one piece cost shifts in each cycle. So whoever hands a state on from one cycle to the next hands
+    // it on apart. Inline always: where the compiler makes it a call, the state goes through memory, and a cycle takes four times as long.
+    #[inline(always)]
+    pub fn apart(mut self) -> State
         ensures { result ≡ self }
     {
         let f = self.current;
@@ -175,7 +177,7 @@ impl State {
         ensures { result ≡ record { state = self; answer = Err refusal } }
     {
         Staged {
-            state: self,
+            state: self.apart(),
             answer: Err(refusal),
         }
     }

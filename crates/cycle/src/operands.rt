@@ -47,8 +47,7 @@ impl State {
                 ],
                 Refusal::Above32Bits,
             );
-            // Apart here too: the compiler would else keep sp and pc in one piece, where the records are not known to it.
-            return self.apart().refused(refusal);
+            return self.refused(refusal);
         }
         let registers = self.registers;
         let page = base.wrapping_add(1);

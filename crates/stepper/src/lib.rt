@@ -50,7 +50,7 @@ fn refused_at(state: State, refusal: Refusal, stage: Stage) -> Cycled
     ensures { result ≡ refused_at state refusal stage }
 {
     Cycled {
-        state,
+        state: state.apart(),
         answer: Err(CycleRefusal { refusal, stage }),
     }
 }
@@ -85,7 +85,7 @@ pub fn cycle(state: State, input: Input, store: &mut [u32]) -> Cycled
         Err(refusal) => return refused_at(executed.state, refusal, Stage::Execute),
     };
     Cycled {
-        state: executed.state,
+        state: executed.state.apart(),
         answer: Ok(CycleAnswer {
             read,
             fetch,
