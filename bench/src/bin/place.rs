@@ -57,7 +57,8 @@ fn read_function(listing: &str) -> Answer<(String, Vec<Instruction>)> {
             names.push(name.to_string());
         } else if let Some((_, text)) = line.split_once("R_X86_64_PC32\t").or(line.split_once("R_X86_64_PLT32\t")) {
             let last = instructions.last_mut().ok_or("a relocation before any instruction")?;
-            last.refers = Some(reference(text.trim()).ok_or_else(|| format!("not read: {line}"))?);
+            let refers = reference(text.trim()).filter(|(to, by)| *by == -4 || to.starts_with(".rodata."));
+            last.refers = Some(refers.ok_or_else(|| format!("not read: {line}"))?);
         } else if line.contains("R_X86_64") {
             return Err(format!("not read: {line}"));
         } else if let Some((address, text)) = line.split_once(":\t") {
