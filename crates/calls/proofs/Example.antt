@@ -150,10 +150,17 @@ pub resumed_figures : (core.ergs (before core call) ≡ 994) × (core.ergs (resu
 unfolding charge charges sum finished_of trace charge_of with_ergs with_sp with_pc kernel_mode read_of low_of checked_of word_of signed_of sum_of difference_of is_zero code_bits bad_records error_flags source_at destination_at places_of sources_of caller_of opened_of resumed_with resumed_of saved_store flags_after finished_state moved_state written_state switched_state fetched_state fetch_done fetch_of decoded_state decode_done decode_of addressed_state operands_done operands_of nop_done nop_of near_call_done near_call_of near_call_store arithmetic_done arithmetic_of close_done close_of return_of execute_done execute_of execute_store
 resumed_figures = (refl, refl, refl)
 
+-- the called frame has the counter before the call's cycle, the second; its caller, current where the listing starts, has its 0 before and after
+pub opening_figures : ((result core call).state.current.opening_cycle ≡ 1)
+    × ((before core call).current.opening_cycle ≡ 0)
+    × ((result core close).state.current.opening_cycle ≡ 0)
+unfolding charge charges sum finished_of trace charge_of with_ergs with_sp with_pc kernel_mode read_of low_of checked_of word_of signed_of sum_of difference_of is_zero code_bits bad_records error_flags source_at destination_at places_of sources_of caller_of opened_of resumed_with resumed_of saved_store flags_after finished_state moved_state written_state switched_state fetched_state fetch_done fetch_of decoded_state decode_done decode_of addressed_state operands_done operands_of nop_done nop_of near_call_done near_call_of near_call_store arithmetic_done arithmetic_of close_done close_of return_of execute_done execute_of execute_store
+opening_figures = (refl, refl, refl)
+
 -- ---- what lasts of a frame, on one whose words all differ: all but sp, pc, ergs, the two heap bounds and pubdata
 abbrev words : List ℕ
-words = 1 ∷ 2 ∷ 3 ∷ 4 ∷ 5 ∷ 6 ∷ 7 ∷ 8 ∷ 9 ∷ 10 ∷ 11 ∷ 12 ∷ 13 ∷ 14 ∷ 15 ∷ 16 ∷ 17 ∷ 18 ∷ 19 ∷ 20 ∷ 21 ∷ 22 ∷ 23 ∷ 24 ∷ 1 ∷ 1 ∷ 27 ∷ 28 ∷ 29 ∷ 30 ∷ 31 ∷ 32 ∷ 33 ∷ 34 ∷ []
+words = 1 ∷ 2 ∷ 3 ∷ 4 ∷ 5 ∷ 6 ∷ 7 ∷ 8 ∷ 9 ∷ 10 ∷ 11 ∷ 12 ∷ 13 ∷ 14 ∷ 15 ∷ 16 ∷ 17 ∷ 18 ∷ 19 ∷ 20 ∷ 21 ∷ 22 ∷ 23 ∷ 24 ∷ 1 ∷ 1 ∷ 27 ∷ 28 ∷ 29 ∷ 30 ∷ 31 ∷ 32 ∷ 33 ∷ 34 ∷ 35 ∷ []
 
-pub lasts : row_of (lasting_of (frame_of words)) ≡ 1 ∷ 2 ∷ 3 ∷ 4 ∷ 5 ∷ 6 ∷ 7 ∷ 8 ∷ 9 ∷ 10 ∷ 11 ∷ 12 ∷ 13 ∷ 14 ∷ 15 ∷ 16 ∷ 17 ∷ 0 ∷ 0 ∷ 20 ∷ 0 ∷ 22 ∷ 23 ∷ 24 ∷ 1 ∷ 1 ∷ 27 ∷ 28 ∷ 29 ∷ 30 ∷ 0 ∷ 0 ∷ 0 ∷ 34 ∷ []
+pub lasts : row_of (lasting_of (frame_of words)) ≡ 1 ∷ 2 ∷ 3 ∷ 4 ∷ 5 ∷ 6 ∷ 7 ∷ 8 ∷ 9 ∷ 10 ∷ 11 ∷ 12 ∷ 13 ∷ 14 ∷ 15 ∷ 16 ∷ 17 ∷ 0 ∷ 0 ∷ 20 ∷ 0 ∷ 22 ∷ 23 ∷ 24 ∷ 1 ∷ 1 ∷ 27 ∷ 28 ∷ 29 ∷ 30 ∷ 0 ∷ 0 ∷ 0 ∷ 34 ∷ 35 ∷ []
 unfolding lasting_of word_of signed_of
 lasts = refl

@@ -61,7 +61,7 @@ stage_of n = cond (eqb n 0) machines.ready (cond (eqb n 1) machines.fetched (con
 abbrev pub operation_of : ℕ → machines.Operation
 operation_of n = cond (eqb n 3) machines.near_call (cond (eqb n 4) machines.ret machines.neither)
 
--- what no stage changes of a frame as long as it lives: all but its ergs, sp, pc, heap bounds and pubdata, which are 0 here
+-- what no stage changes of a frame as long as it lives, the cycle of its opening too: all but its ergs, sp, pc, heap bounds and pubdata, which are 0 here
 unfoldable pub lasting_of : Frame → Frame
 lasting_of f = record {
   context_u128_value = f.context_u128_value;
@@ -83,6 +83,7 @@ lasting_of f = record {
   aux_heap_bound = 0;
   total_pubdata_spent = record { 0 = pos 0 };
   stipend = f.stipend;
+  opening_cycle = f.opening_cycle;
 }
 
 abbrev pub core : machines.Machine

@@ -1,5 +1,6 @@
 -- Near call. Document 01: "Near call wants the low 32 bits of src0 times the multiplier"; refusal 9, "near call at depth equal to limit". The caller is saved as the
--- first free row, the flags are cleared.
+-- first free row, the flags are cleared. Document 02, CR 12: the opened frame has "the cycle counter that `start_frame` is given at its opening", which is the counter
+-- before the cycle adds its 1.
 use Rattle.std.specs.Prelude.{ℕ, ◌+◌, ◌-◌, Bool, cond, List, [], ◌∷◌, None, Some, Ok, ◌==◌}
 use Rattle.frame.specs.declared.Frame.{Frame}
 use Rattle.refusal.specs.Refusal.{Check, first_of, ◌refuses◌}
@@ -37,7 +38,7 @@ unfoldable pub near_call_done : Settings → ℕ → State → Staged ExecuteAns
 near_call_done settings want s = record {
   state =
       switched_state (finished_in settings s)
-      (opened_of (caller_in settings want s) (passed_in settings want s) s.kept.instruction.imm_0 s.kept.instruction.imm_1)
+      (opened_of (caller_in settings want s) (passed_in settings want s) s.kept.instruction.imm_0 s.kept.instruction.imm_1 s.monotonic_cycle_counter)
       (s.depth + 1)
       no_flags
       s.pubdata_revert_counter;

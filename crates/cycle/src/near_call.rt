@@ -31,7 +31,13 @@ impl State {
         let pc = time::next_pc(f.pc, depth == 0);
         let caller = near_call::caller_frame(f, f.ergs_remaining - passed, pc);
         let _ = frame::save_frame(store, depth, caller);
-        let opened = near_call::opened_frame(caller, passed, instruction.imm_0, instruction.imm_1);
+        let opened = near_call::opened_frame(
+            caller,
+            passed,
+            instruction.imm_0,
+            instruction.imm_1,
+            self.monotonic_cycle_counter,
+        );
         let reverts = self.pubdata_revert_counter;
         let base = self.finish(settings);
         let next = base.switched(opened, depth + 1, helpers::no_flags(), reverts);

@@ -32,10 +32,11 @@ frame_at this = record {
   aux_heap_bound = 32;
   total_pubdata_spent = record { 0 = negsuc 4 };
   stipend = 34;
+  opening_cycle = 35;
 }
 
 pub row_written_out : row_of (frame_at (record { a0 = 1; a1 = 2; a2 = 3; a3 = 4; a4 = 5 }))
-    ≡ 1 ∷ 2 ∷ 3 ∷ 4 ∷ 5 ∷ 6 ∷ 7 ∷ 8 ∷ 9 ∷ 10 ∷ 11 ∷ 12 ∷ 13 ∷ 14 ∷ 15 ∷ 16 ∷ 17 ∷ 18 ∷ 19 ∷ 20 ∷ 21 ∷ 22 ∷ 23 ∷ 24 ∷ 1 ∷ 0 ∷ 27 ∷ 28 ∷ 29 ∷ 30 ∷ 31 ∷ 32 ∷ 4294967291 ∷ 34 ∷ []
+    ≡ 1 ∷ 2 ∷ 3 ∷ 4 ∷ 5 ∷ 6 ∷ 7 ∷ 8 ∷ 9 ∷ 10 ∷ 11 ∷ 12 ∷ 13 ∷ 14 ∷ 15 ∷ 16 ∷ 17 ∷ 18 ∷ 19 ∷ 20 ∷ 21 ∷ 22 ∷ 23 ∷ 24 ∷ 1 ∷ 0 ∷ 27 ∷ 28 ∷ 29 ∷ 30 ∷ 31 ∷ 32 ∷ 4294967291 ∷ 34 ∷ 35 ∷ []
 unfolding word_of
 row_written_out = refl
 

@@ -23,6 +23,7 @@ with_ergs f ergs = record {
   aux_heap_bound = f.aux_heap_bound;
   total_pubdata_spent = f.total_pubdata_spent;
   stipend = f.stipend;
+  opening_cycle = f.opening_cycle;
 }
 
 unfoldable pub with_sp : Frame → ℕ → Frame
@@ -46,6 +47,7 @@ with_sp f sp = record {
   aux_heap_bound = f.aux_heap_bound;
   total_pubdata_spent = f.total_pubdata_spent;
   stipend = f.stipend;
+  opening_cycle = f.opening_cycle;
 }
 
 unfoldable pub with_pc : Frame → ℕ → Frame
@@ -69,4 +71,5 @@ with_pc f pc = record {
   aux_heap_bound = f.aux_heap_bound;
   total_pubdata_spent = f.total_pubdata_spent;
   stipend = f.stipend;
+  opening_cycle = f.opening_cycle;
 }

@@ -1,6 +1,7 @@
 -- A frame's row. Document 01: "34 words of 32 bits, the fields of `CallStackEntry` in its order: three addresses of five words (first byte highest), base page,
 -- code page, sp, pc, handler, ergs, three shard ids, static, local, context value (four words, lowest first), heap bound, aux heap bound, pubdata, stipend."
-use Rattle.std.specs.Prelude.{ℕ, ◌+◌, ◌*◌, ◌/◌, ◌%◌, ◌^◌, Bool, ◌&&◌, List, [], ◌∷◌, ◌++◌, ltb, leb, eqb, length, get_or}
+-- Document 02, CR 12: "Every frame, current or saved, gains the cycle counter that `start_frame` is given at its opening, and a row has 35 words, this one last."
+use Rattle.std.specs.Prelude.{ℕ, ◌+◌, ◌-◌, ◌*◌, ◌/◌, ◌%◌, ◌^◌, Bool, ◌&&◌, List, [], ◌∷◌, ◌++◌, ltb, leb, eqb, length, get_or}
 use mir.Val.{bool_byte}
 use Rattle.signed.specs.Signed.{word_of, signed_of}
 use Rattle.frame.specs.declared.Frame.{Frame}
@@ -10,7 +11,7 @@ use Rattle.frame.specs.declared.PubdataCost.{PubdataCost}
 
 -- how many words a row has; the contracts hold the code's ROW_WIDTH to it
 abbrev pub row_width : ℕ
-row_width = 34
+row_width = 35
 
 -- ---- the words of a frame
 abbrev pub address_words : Address → List ℕ
@@ -41,6 +42,7 @@ row_of f =
     ∷ f.aux_heap_bound
     ∷ word_of 32 f.total_pubdata_spent.0
     ∷ f.stipend
+    ∷ f.opening_cycle
     ∷ [])
 
 -- ---- the frame of a row's words
@@ -83,11 +85,13 @@ frame_of row = record {
   aux_heap_bound = word row 31;
   total_pubdata_spent = pubdata_of (word row 32);
   stipend = word row 33;
+  opening_cycle = word row (row_width - 1);
 }
 
 -- ---- good rows
 -- "A row is good if sp, pc and handler are below 65,536, shard ids below 256, static and local 0 or 1." sp, pc and handler have w bits: 16 in the production
 -- encoding. The tests are of words, since a frame's static and local are yes or no and no longer tell 2 from 0.
+-- The other words, the cycle of opening among them, may have any value.
 abbrev pub good_words : ℕ → List ℕ → Bool
 good_words w row =
     ltb (word row 17) (2 ^ w)

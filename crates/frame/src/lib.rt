@@ -11,7 +11,7 @@ mod row;
 use refusal::Refusal;
 
 // The words of a row.
-pub const ROW_WIDTH: usize = 34;
+pub const ROW_WIDTH: usize = 35;
 
 // Where a row has its ergs.
 const ERGS: usize = 20;
@@ -36,7 +36,8 @@ pub struct U128 {
 #[derive(Clone, Copy, Default)]
 pub struct PubdataCost(pub i32);
 
-// The Rust's `CallStackEntry`. The order leaves no hole of 3, 5, 6 or 7 bytes: such a hole slows each copy down.
+// The Rust's `CallStackEntry`, and the cycle counter at its opening, which the Rust keeps nowhere. The order leaves no hole of 3, 5, 6 or 7 bytes: such a hole slows
+// each copy down. What the cycle of opening costs at other places is in docs/SPEED.md.
 #[derive(Clone, Copy, Default)]
 pub struct Frame {
     pub context_u128_value: U128,
@@ -46,6 +47,7 @@ pub struct Frame {
     pub base_memory_page: u32,
     pub code_page: u32,
     pub ergs_remaining: u32,
+    pub opening_cycle: u32,
     pub sp: u16,
     pub pc: u16,
     pub exception_handler_location: u16,
@@ -61,7 +63,7 @@ pub struct Frame {
 }
 
 impl Frame {
-    // The same frame, each narrow field copied by itself: several in one piece cost shifts in each cycle.
+    // The same frame, each narrow field and the cycle of opening copied by itself: several in one piece cost shifts in each cycle.
     pub fn apart(mut self) -> Frame
         ensures { result ≡ self }
     {
@@ -73,6 +75,7 @@ impl Frame {
         let code_shard_id = self.code_shard_id;
         let is_static = self.is_static;
         let is_local_frame = self.is_local_frame;
+        let opening_cycle = self.opening_cycle;
         self.sp = sp;
         self.pc = pc;
         self.exception_handler_location = exception_handler_location;
@@ -81,6 +84,7 @@ impl Frame {
         self.code_shard_id = code_shard_id;
         self.is_static = is_static;
         self.is_local_frame = is_local_frame;
+        self.opening_cycle = opening_cycle;
         self
     }
 

@@ -69,6 +69,7 @@ pub(crate) fn row_words(f: Frame) -> [u32; ROW_WIDTH]
         f.aux_heap_bound,
         pubdata_word(spent),
         f.stipend,
+        f.opening_cycle,
     ]
 }
 
@@ -158,6 +159,7 @@ pub(crate) fn read(row: &[u32; ROW_WIDTH]) -> Frame
         aux_heap_bound,
         spent,
         stipend,
+        opening,
     ] = *row;
     Frame {
         this_address: address_of(this0, this1, this2, this3, this4),
@@ -179,5 +181,6 @@ pub(crate) fn read(row: &[u32; ROW_WIDTH]) -> Frame
         aux_heap_bound,
         total_pubdata_spent: pubdata_of(spent),
         stipend,
+        opening_cycle: opening,
     }
 }

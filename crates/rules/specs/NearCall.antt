@@ -31,11 +31,12 @@ caller_of f ergs pc = record {
   aux_heap_bound = f.aux_heap_bound;
   total_pubdata_spent = f.total_pubdata_spent;
   stipend = f.stipend;
+  opening_cycle = f.opening_cycle;
 }
 
--- the opened frame: a copy of its caller but for pc, handler, ergs, local and pubdata
-unfoldable pub opened_of : Frame → ℕ → ℕ → ℕ → Frame
-opened_of f ergs pc handler = record {
+-- the opened frame: a copy of its caller but for pc, handler, ergs, local, pubdata and the cycle of opening, which is the one given
+unfoldable pub opened_of : Frame → ℕ → ℕ → ℕ → ℕ → Frame
+opened_of f ergs pc handler cycle = record {
   context_u128_value = f.context_u128_value;
   this_address = f.this_address;
   msg_sender = f.msg_sender;
@@ -55,4 +56,5 @@ opened_of f ergs pc handler = record {
   aux_heap_bound = f.aux_heap_bound;
   total_pubdata_spent = record { 0 = pos 0 };
   stipend = f.stipend;
+  opening_cycle = cycle;
 }

@@ -48,7 +48,7 @@ close_refusal ok caller closed reverts late =
     ∷ (late refuses 14)
     ∷ [])
 
--- the caller, which goes on with the closed frame's heap bounds
+-- the caller, which goes on with the closed frame's heap bounds. Document 02, CR 12, of the cycle of opening: every return "gives the caller its own back".
 unfoldable pub resumed_with : Frame → Frame → PubdataCost → ℕ → ℕ → Frame
 resumed_with f closed pubdata ergs pc = record {
   context_u128_value = f.context_u128_value;
@@ -70,6 +70,7 @@ resumed_with f closed pubdata ergs pc = record {
   aux_heap_bound = closed.aux_heap_bound;
   total_pubdata_spent = pubdata;
   stipend = f.stipend;
+  opening_cycle = f.opening_cycle;
 }
 
 -- the caller as it goes on with so many ergs after the return r

@@ -29,8 +29,8 @@ pub fn caller_frame(f: Frame, ergs: u32, pc: u16) -> Frame
 }
 
 #[tactic(auto, unfolding(crate::specs::NearCall::opened_of))]
-pub fn opened_frame(f: Frame, ergs: u32, pc: u16, handler: u16) -> Frame
-    ensures { result ≡ opened_of f ergs pc handler }
+pub fn opened_frame(f: Frame, ergs: u32, pc: u16, handler: u16, cycle: u32) -> Frame
+    ensures { result ≡ opened_of f ergs pc handler cycle }
 {
     let none = PubdataCost(0);
     let mut opened = f.apart();
@@ -39,5 +39,6 @@ pub fn opened_frame(f: Frame, ergs: u32, pc: u16, handler: u16) -> Frame
     opened.exception_handler_location = handler;
     opened.is_local_frame = true;
     opened.total_pubdata_spent = none;
+    opened.opening_cycle = cycle;
     opened
 }

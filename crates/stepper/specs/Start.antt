@@ -38,6 +38,7 @@ far_frame ergs sp = record {
   aux_heap_bound = 0;
   total_pubdata_spent = record { 0 = pos 0 };
   stipend = 0;
+  opening_cycle = 0;
 }
 
 -- an instruction, of which all else is 0 or no: operation, return kind, source and destination kind, src0, src1, dst0, imm_0, imm_1, price, set flags
