@@ -4,7 +4,7 @@
 use crate::case::*;
 use crate::convert::*;
 use crate::machine::{machine, Machine};
-use crate::oracle::{Answer, Oracle, Outcome, Ran, BUILT_WITH};
+use crate::oracle::{state_after, Answer, Oracle, Outcome, Ran, BUILT_WITH};
 use crate::places::{self, Place, Refusal};
 use zk_evm::opcodes::DecodedOpcode;
 use zk_evm::vm_state::{MemOpsProcessor, PreState};
@@ -208,13 +208,13 @@ fn apply(oracle: &Oracle, case: &Case, opcode: DecodedOpcode, prestate: PreState
         Some(counter) => machine.local_state.monotonic_cycle_counter = counter,
         None => return Outcome::Refused(refusal(14)),
     }
-    Outcome::Finished(Box::new(finished(&machine)))
+    Outcome::Finished(Box::new(finished(case, &machine)))
 }
 
-fn finished(machine: &Machine) -> Finished {
+fn finished(case: &Case, machine: &Machine) -> Finished {
     assert!(machine.memory.queries().is_empty(), "a memory query with no location kept");
     Finished {
-        state: from_local_state(&machine.local_state),
+        state: state_after(case, machine),
         before: None,
         write: None,
         event: machine.storage.event,

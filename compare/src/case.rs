@@ -4,7 +4,7 @@
 pub type Word = [u64; 4];
 
 pub const REGISTERS: usize = 15;
-pub const ROW: usize = 34;
+pub const ROW: usize = 35;
 
 /// The largest limit and depth of the case format.
 pub const MOST_ROWS: u32 = 16;
@@ -13,8 +13,10 @@ pub const MOST_ROWS: u32 = 16;
 #[derive(Clone, Copy, Debug, PartialEq, Eq)]
 pub struct Row(pub [u32; ROW]);
 
-/// Places of a row that are read one by one. The three addresses come first, five words each.
+/// Places of a row that are read one by one. The three addresses come first, five words each; the cycle of opening is the last word.
 pub mod place {
+    use super::ROW;
+
     pub const ADDRESSES: usize = 0;
     pub const BASE_PAGE: usize = 15;
     pub const CODE_PAGE: usize = 16;
@@ -30,6 +32,7 @@ pub mod place {
     pub const AUX_HEAP_BOUND: usize = 31;
     pub const PUBDATA: usize = 32;
     pub const STIPEND: usize = 33;
+    pub const OPENING: usize = ROW - 1;
 }
 
 impl Row {

@@ -63,6 +63,7 @@ fn to_frame(row: &Row) -> CallStackEntry {
     }
 }
 
+/// The Rust's frame has no cycle of opening: `with_openings` puts it in.
 fn from_frame(frame: &CallStackEntry) -> Row {
     let context = frame.context_u128_value;
     let rest = [
@@ -136,6 +137,23 @@ pub fn from_local_state(state: &VmLocalState) -> State {
         current: from_frame(&state.callstack.current),
         saved: state.callstack.inner.iter().map(from_frame).collect(),
     }
+}
+
+/// The Rust's state after a case, with the cycle of each frame's opening, which document 02 alone defines: a frame that was opened has the
+/// counter before the case, each other frame its own. `told` is the counter that the Rust gave `start_frame`, if it opened a frame.
+pub fn with_openings(before: &State, mut after: State, told: Option<u32>) -> State {
+    let is_opened = before.saved.len() < after.saved.len();
+    assert_eq!(
+        told,
+        is_opened.then_some(before.cycle_counter),
+        "start_frame was given another counter"
+    );
+    let openings = before.saved.iter().chain([&before.current]).map(|row| row.0[place::OPENING]);
+    let openings = openings.chain([before.cycle_counter]);
+    for (row, opening) in after.saved.iter_mut().chain([&mut after.current]).zip(openings) {
+        row.0[place::OPENING] = opening;
+    }
+    after
 }
 
 /// A location of one of the two kinds that the stages use.

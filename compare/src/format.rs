@@ -156,7 +156,7 @@ pub fn read_case(line: &[u8]) -> Option<Case> {
 }
 
 /// The fields of a row, with the words of each.
-const ROW_FIELDS: [(&str, usize); 19] = [
+const ROW_FIELDS: [(&str, usize); 20] = [
     ("this_address", 5),
     ("msg_sender", 5),
     ("code_address", 5),
@@ -176,6 +176,7 @@ const ROW_FIELDS: [(&str, usize); 19] = [
     ("aux heap bound", 1),
     ("pubdata", 1),
     ("stipend", 1),
+    ("cycle of opening", 1),
 ];
 
 /// A line in the making: the numbers, and, where asked for, the name of each.

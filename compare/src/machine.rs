@@ -3,18 +3,19 @@
 use std::cell::{Cell, RefCell};
 use zk_evm::block_properties::BlockProperties;
 use zk_evm::tracing::{AfterDecodingData, AfterExecutionData, BeforeExecutionData, Tracer, VmLocalStateData};
-use zk_evm::vm_state::{PrimitiveValue, VmLocalState, VmState};
-use zk_evm::witness_trace::DummyTracer;
+use zk_evm::vm_state::{CallStackEntry, PrimitiveValue, VmLocalState, VmState};
+use zk_evm::witness_trace::VmWitnessTracer;
 use zk_evm_abstractions::aux::{MemoryLocation, Timestamp};
 use zk_evm_abstractions::queries::MemoryQuery;
 use zk_evm_abstractions::vm::{DecommittmentProcessor, EventSink, Memory, PrecompilesProcessor, Storage};
 use zkevm_opcode_defs::decoding::encoding_mode_production::Encoding;
+use zkevm_opcode_defs::decoding::EncodingModeProduction;
 use zkevm_opcode_defs::ethereum_types::U256;
 use zkevm_opcode_defs::Opcode;
 
 use crate::case::{Choice, Event};
 
-pub type Machine = VmState<FrameEvents, CaseMemory, Unused, Unused, Unused, DummyTracer>;
+pub type Machine = VmState<FrameEvents, CaseMemory, Unused, Unused, Unused, Openings>;
 
 /// A machine in the given state, whose memory holds the two words of a case.
 pub fn machine(local_state: VmLocalState, code_word: U256, source: PrimitiveValue) -> Machine {
@@ -35,7 +36,7 @@ pub fn machine(local_state: VmLocalState, code_word: U256, source: PrimitiveValu
         event_sink: Unused,
         precompiles_processor: Unused,
         decommittment_processor: Unused,
-        witness_tracer: DummyTracer,
+        witness_tracer: Openings::default(),
     }
 }
 
@@ -119,6 +120,18 @@ impl PrecompilesProcessor for Unused {
 }
 
 impl DecommittmentProcessor for Unused {}
+
+/// The witness tracer: it is told the cycle counter that `start_frame` is given, which the Rust keeps nowhere.
+#[derive(Clone, Debug, Default)]
+pub struct Openings {
+    pub counter: Option<u32>,
+}
+
+impl VmWitnessTracer<8, EncodingModeProduction> for Openings {
+    fn start_new_execution_context(&mut self, monotonic_cycle_counter: u32, _caller: &CallStackEntry, _opened: &CallStackEntry) {
+        self.counter = Some(monotonic_cycle_counter);
+    }
+}
 
 /// What the stages answer, seen from between them.
 #[derive(Debug, Default)]

@@ -250,6 +250,12 @@ impl Queries {
     }
 }
 
+/// The machine's state after a case.
+pub fn state_after(case: &Case, machine: &Machine) -> State {
+    let state = from_local_state(&machine.local_state);
+    with_openings(&case.state, state, machine.witness_tracer.counter)
+}
+
 fn finished(case: &Case, machine: &Machine, recorder: &Recorder) -> Finished {
     let decoded = recorder.decoded.expect("decoding was traced");
     let operands = recorder.operands.expect("execution was traced");
@@ -267,7 +273,7 @@ fn finished(case: &Case, machine: &Machine, recorder: &Recorder) -> Finished {
         destination: recorder.destination.map(from_location),
     };
     Finished {
-        state: from_local_state(&machine.local_state),
+        state: state_after(case, machine),
         before: Some(before),
         write: queries.write.map(|write| Write {
             location: from_location(write.location),

@@ -51,6 +51,19 @@ fn ergs_of_a_near_call() {
 }
 
 #[test]
+fn cycles_of_opening() {
+    let mut call = calm::cycle(operation::NEAR_CALL);
+    call.state.cycle_counter = 7;
+    call.state.current.0[place::OPENING] = 3;
+    let called = finish(&call).state;
+    assert_eq!((called.current.0[place::OPENING], called.saved[1].0[place::OPENING]), (7, 3));
+    let mut back = calm::cycle(operation::RETURN);
+    back.state.current.0[place::OPENING] = 7;
+    back.state.saved[0].0[place::OPENING] = 3;
+    assert_eq!(finish(&back).state.current.0[place::OPENING], 3);
+}
+
+#[test]
 fn stack_pointer() {
     // sp, pop and push, index read, index written, sp after
     let edges = [

@@ -27,6 +27,7 @@ pub fn case(seed: u64, number: u64) -> Case {
     if maker.random.per_mille(40) {
         maker.spoil(&mut case);
     }
+    maker.open(&mut case.state);
     case
 }
 
@@ -38,6 +39,7 @@ pub fn short(seed: u64, number: u64) -> Case {
     if case.state.depth() > 3 || maker.random.below(14) != 0 {
         maker.shorten(&mut case);
     }
+    maker.open(&mut case.state);
     case
 }
 
@@ -48,6 +50,7 @@ pub fn short_spoiled(seed: u64, number: u64) -> Case {
     maker.drop_rows(&mut case.state.saved);
     maker.shorten(&mut case);
     maker.spoil(&mut case);
+    maker.open(&mut case.state);
     case
 }
 
@@ -68,17 +71,21 @@ pub fn leaving(seed: u64, number: u64) -> Case {
     if maker.random.below(8) == 0 {
         maker.leave(&mut case);
     }
+    maker.open(&mut case.state);
     case
 }
 
 struct Maker {
     random: Random,
+    /// for the cycles of opening: the other draws do not depend on them
+    openings: Random,
 }
 
 impl Maker {
     fn new(seed: u64, number: u64) -> Self {
         Self {
             random: Random::of_case(seed, number),
+            openings: Random::of_case(!seed, number),
         }
     }
 
@@ -154,7 +161,7 @@ impl Maker {
     /// A frame that is good, each field with its edges.
     fn row(&mut self) -> Row {
         let mut row = Row([0; ROW]);
-        row.0.iter_mut().for_each(|word| *word = self.random.u32());
+        row.0[..place::OPENING].iter_mut().for_each(|word| *word = self.random.u32());
         let this_address = self.address();
         row.0[place::ADDRESSES..][..5].copy_from_slice(&this_address);
         row.0[place::BASE_PAGE] = match self.random.below(40) {
@@ -178,6 +185,19 @@ impl Maker {
         }
         row.0[place::PUBDATA] = self.signed();
         row
+    }
+
+    /// When each frame was opened: often near the counter, most often short.
+    fn open(&mut self, state: &mut State) {
+        for row in state.saved.iter_mut().chain([&mut state.current]) {
+            row.0[place::OPENING] = match self.openings.below(16) {
+                0 => 0,
+                1 => u32::MAX,
+                2 => self.openings.u32(),
+                3..6 => state.cycle_counter.wrapping_add(self.openings.below(5)).wrapping_sub(2),
+                _ => self.openings.below(1000),
+            };
+        }
     }
 
     /// Registers. Some are equal to another, or its negative, so that sums and differences come to 0.

@@ -123,7 +123,7 @@ impl Maker {
             (10, 15),
             (place::SHARDS, place::STATIC),
             (place::CONTEXT, place::HEAP_BOUND),
-            (place::STIPEND, ROW),
+            (place::STIPEND, place::OPENING),
         ];
         for (from, to) in parts {
             if from < to && self.mostly() {

@@ -26,6 +26,8 @@ pub struct Run {
     pub needs: Needs,
     /// what of the Rust's part a stand-in has, if anything
     pub stand_in: &'static str,
+    /// what document 02 has in the place of the Rust, if anything
+    pub defined: &'static str,
 }
 
 pub const RECORDS: &str = "the records";
@@ -53,6 +55,14 @@ pub enum Port {
 }
 
 impl Entry {
+    /// Document 02 has this in the place of the Rust.
+    pub fn but_for(mut self, defined: &'static str) -> Self {
+        if let What::Run(run) = &mut self.what {
+            run.defined = defined;
+        }
+        self
+    }
+
     /// A stand-in has this of the Rust's part.
     pub fn by(mut self, stand_in: &'static str) -> Self {
         if let What::Run(run) = &mut self.what {
@@ -115,9 +125,10 @@ impl Display for Run {
             Port::Another => write!(f, "; the port finishes in its own way"),
             Port::Finishes => write!(f, "; the port finishes"),
         }?;
-        match self.stand_in {
-            "" => Ok(()),
-            part => write!(f, " (a stand-in has {part})"),
+        match (self.stand_in, self.defined) {
+            ("", "") => Ok(()),
+            ("", part) => write!(f, " (document 02 has {part})"),
+            (part, _) => write!(f, " (a stand-in has {part})"),
         }
     }
 }
@@ -146,6 +157,7 @@ pub fn row_with(needs: Needs, name: &'static str, cases: fn() -> Vec<Case>, rust
             port,
             needs,
             stand_in: "",
+            defined: "",
         }),
     }
 }

@@ -21,6 +21,7 @@ pub fn rows() -> Vec<Entry> {
         no_case("I45", "the Rust has no tally"),
         no_case("I46", "what the Rust calls, the port answers: it is compared as such"),
         no_case("I47", "a case has the fields that both have"),
+        row("I48", opening, Finishes, Port::Same).but_for("the cycle of opening"),
     ]
 }
 
@@ -40,6 +41,19 @@ fn other_constants() -> Vec<Case> {
 /// The stand-in's, which sets pc.
 fn nop() -> Vec<Case> {
     vec![calm::cycle(operation::NOP)]
+}
+
+/// A near call, and a return from what it opened: the word itself is the definition's.
+fn opening() -> Vec<Case> {
+    let call = with(calm::cycle(operation::NEAR_CALL), |case| {
+        case.state.cycle_counter = 7;
+        case.state.current.0[place::OPENING] = 3;
+    });
+    let back = with(calm::cycle(operation::RETURN), |case| {
+        case.state.current.0[place::OPENING] = 7;
+        case.state.saved[0].0[place::OPENING] = 3;
+    });
+    vec![call, back]
 }
 
 fn other_limit() -> Vec<Case> {

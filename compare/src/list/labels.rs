@@ -254,6 +254,10 @@ fn near_call_labels(run: &Run, record: &Record) -> Vec<String> {
             about(wanted - i64::from(run.held()))
         ),
         format!("{part:?}: near call from a local frame {}", run.current(place::LOCAL)),
+        format!(
+            "{part:?}: near call, opening of the caller and counter {}",
+            about(i64::from(run.current(place::OPENING)) - i64::from(run.case.state.cycle_counter))
+        ),
     ]
 }
 
@@ -261,6 +265,13 @@ fn return_labels(run: &Run, kept: &Kept) -> Vec<String> {
     let Kept { choice, record } = kept;
     let part = run.case.part;
     let mut labels = vec![format!("{part:?}: {choice:?} {}, to label {}", name(record), record.to_label)];
+    if let Some(caller) = run.case.state.saved.last() {
+        let distance = i64::from(run.current(place::OPENING)) - i64::from(caller.0[place::OPENING]);
+        labels.push(format!(
+            "{part:?}: return, openings of the closed frame and the caller {}",
+            about(distance)
+        ));
+    }
     if part == Part::Cycle {
         let is_ok = record.return_kind == return_kind::OK;
         labels.push(format!(

@@ -44,6 +44,11 @@ fn operation_labels() -> Vec<String> {
         labels.extend((1..8).map(|condition| format!("{operation}, condition {condition}, met false")));
         labels.extend((0..5).map(|flag| format!("{operation}, error flag {flag}")));
     }
+    for part in ["Cycle", "Execute"] {
+        labels.extend((-2..=2).map(|distance| format!("{part}: near call, opening of the caller and counter {distance}")));
+        let openings = [-2, 0, 2].map(|distance| format!("{part}: return, openings of the closed frame and the caller {distance}"));
+        labels.extend(openings);
+    }
     for kind in ["ok", "revert", "panic"] {
         labels.extend([true, false].map(|to_label| format!("Cycle: Plain return {kind}, to label {to_label}")));
         labels.extend([true, false].map(|to_label| format!("Execute: Plain return {kind}, to label {to_label}")));
