@@ -2,14 +2,16 @@
 //! settings. `compare/README.md` has the format.
 use crate::machine::*;
 use crate::plain::Plain;
+use crate::sides::ROW;
 use crate::tuned::Tuned;
 use crate::work::{decoded, RECORD};
 
 /// Depth limit, multiplier and time step of the lines that are taken.
 const SETTINGS: [u64; 3] = [4, ERGS_CONVERSION as u64, TIME_DELTA_PER_CYCLE as u64];
-/// The numbers of a row, and of what stands before the rows: settings, registers, flags and state.
-const ROW: usize = 34;
-const ROWS: usize = 3 + 75 + 3 + 11;
+/// The numbers before the rows of a result: registers, flags and state. A case has the settings before them.
+const BEFORE_ROWS: usize = 75 + 3 + 11;
+/// The words of a row that the reference's frame has: all but the last, the cycle of opening.
+const KNOWN: usize = ROW - 1;
 
 struct Numbers<'a>(&'a [u64]);
 
@@ -192,14 +194,17 @@ fn cycled<P: Program, const BY_VALUE: bool>(case: &[u64]) -> Vec<u64> {
 /// The same of a line of answers; after the machine come code read, fetch, decode, operands, write and event.
 fn answered(result: &[u64]) -> Vec<u64> {
     let (machine, rest) = result.split_at(result.len() - 24);
-    [machine, &rest[0..3], &rest[6..7], &rest[7..10], &rest[13..23]].concat()
+    let (state, rows) = machine.split_at(BEFORE_ROWS);
+    let rows: Vec<u64> = rows.chunks(ROW).flat_map(|row| row[..KNOWN].to_vec()).collect();
+    [state, &rows, &rest[0..3], &rest[6..7], &rest[7..10], &rest[13..23]].concat()
 }
 
 /// Whether the types here can state a case: no operation but these five, every row good.
 fn is_stated(case: &[u64]) -> bool {
     let records = case.len() - 9 - 3 * RECORD;
-    let good = |words: &[u64]| row(&frame(words)) == words;
-    case[records..].chunks(RECORD).take(3).all(|r| r[0] < 5) && case[ROWS..records].chunks(ROW).all(good)
+    let rows = &case[SETTINGS.len() + BEFORE_ROWS..records];
+    let good = |words: &[u64]| row(&frame(words)) == words[..KNOWN];
+    case[records..].chunks(RECORD).take(3).all(|r| r[0] < 5) && rows.chunks(ROW).all(good)
 }
 
 fn parsed(line: &str) -> Option<Vec<u64>> {

@@ -8,7 +8,7 @@ use crate::work::{Work, LIMIT};
 use std::hint::black_box;
 
 /// The words of a saved frame on the Rattle side, and the places of its pc and ergs.
-const ROW: usize = 34;
+pub const ROW: usize = 35;
 const ROW_PC: usize = 18;
 const ROW_ERGS: usize = 20;
 
