@@ -4,10 +4,10 @@ use Rattle.std.specs.Option.{is_none}
 use Rattle.std.specs.Result.{result_err}
 use Rattle.std.proofs.lemmas.Bool.Decides.{nat_tests}
 use Rattle.refusal.specs.declared.Refusal.{Refusal}
-use Rattle.cycle.specs.declared.State.{State}
-use Rattle.stepper.specs.declared.Input.{Input}
-use Rattle.stepper.specs.Start.{start_state}
-use Rattle.stepper.specs.Cycle.{cycle_of, cycle_store}
+use Rattle.stages.specs.declared.State.{State}
+use Rattle.cycle.specs.declared.Input.{Input}
+use Rattle.start.specs.Start.{start_state}
+use Rattle.cycle.specs.Cycle.{cycle_of, cycle_store}
 use Rattle.bench_lines.specs.declared.CycleOutcome.{CycleOutcome}
 use Rattle.bench_lines.specs.Bench.{Bench, Step, next_line, line_at, cycles_of, cycle_outcome, charged_after, cycle_turn, line_turn, turns, end_of}
 

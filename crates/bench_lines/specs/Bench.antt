@@ -4,14 +4,14 @@ use Rattle.std.specs.Option.{is_none}
 use Rattle.std.specs.Result.{result_err}
 use Rattle.refusal.specs.declared.Refusal.{Refusal}
 use Rattle.refusal.specs.Refusal.{paper_number}
-use Rattle.rules.specs.declared.Flags.{Flags}
-use Rattle.cycle.specs.declared.State.{State}
-use Rattle.stepper.specs.declared.CycleAnswer.{CycleAnswer}
-use Rattle.stepper.specs.declared.CycleRefusal.{CycleRefusal}
-use Rattle.stepper.specs.declared.Cycled.{Cycled}
-use Rattle.stepper.specs.declared.Input.{Input}
-use Rattle.stepper.specs.Start.{start_state}
-use Rattle.stepper.specs.Cycle.{cycle_of, cycle_store}
+use Rattle.records.specs.declared.Flags.{Flags}
+use Rattle.stages.specs.declared.State.{State}
+use Rattle.cycle.specs.declared.CycleAnswer.{CycleAnswer}
+use Rattle.cycle.specs.declared.CycleRefusal.{CycleRefusal}
+use Rattle.cycle.specs.declared.Cycled.{Cycled}
+use Rattle.cycle.specs.declared.Input.{Input}
+use Rattle.start.specs.Start.{start_state}
+use Rattle.cycle.specs.Cycle.{cycle_of, cycle_store}
 use Rattle.bench_lines.specs.declared.CycleOutcome.{CycleOutcome}
 use Rattle.bench_lines.specs.declared.Progress.{Progress}
 

@@ -1,9 +1,9 @@
 -- A line of 58 words of 64 bits: three records of 19 words, plain, panic and nop, and the want.
 use Rattle.std.specs.Prelude.{ℕ, ◌+◌, ◌*◌, ◌%◌, ◌^◌, Bool, cond, not, List, length, ◌==◌, nat_le, slice_index}
 use Rattle.u256.specs.declared.U256.{U256}
-use Rattle.rules.specs.declared.Record.{Record}
-use Rattle.rules.specs.declared.Records.{Records}
-use Rattle.cycle.specs.Effects.{no_record}
+use Rattle.records.specs.declared.Record.{Record}
+use Rattle.records.specs.declared.Records.{Records}
+use Rattle.stages.specs.Effects.{no_record}
 
 abbrev pub record_width : ℕ
 record_width = 19

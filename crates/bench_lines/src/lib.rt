@@ -2,17 +2,17 @@
 #![tactic(auto)]
 
 ghost use Rattle.std.specs.Prelude.{◌≡◌, ℕ, ◌+◌, ◌≤◌, List, length};
-ghost use Rattle.cycle.specs.declared.State.{State};
-ghost use Rattle.stepper.specs.Cycle.{cycle_of, cycle_store};
+ghost use Rattle.stages.specs.declared.State.{State};
+ghost use Rattle.cycle.specs.Cycle.{cycle_of, cycle_store};
 ghost use Rattle.bench_lines.specs.Bench.{Given, start_progress, cycles_of, next_line, line_at, cycle_outcome, refused_number, flags_number, end_of, run_of};
 
 mod line;
 
-use cycle::State;
+use cycle::Cycled;
 pub use line::{LINE, records_of, want_of, word_of};
+use records::Flags;
 use refusal::Refusal;
-use rules::Flags;
-use stepper::Cycled;
+use stages::State;
 
 // What a cycle gives.
 #[derive(Clone, Copy)]
@@ -66,7 +66,7 @@ fn start_progress(ergs: u32) -> Progress
     ensures { result ≡ start_progress ergs }
 {
     Progress {
-        state: stepper::start_state(ergs, 0),
+        state: start::start_state(ergs, 0),
         charged: 0,
         begun: 0,
         at: 0,

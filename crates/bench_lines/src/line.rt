@@ -2,7 +2,7 @@
 ghost use Rattle.std.specs.Prelude.{◌≡◌, ℕ, ◌+◌, ◌%◌, ◌^◌, ◌<◌, length, take, drop, MatchOption};
 ghost use Rattle.bench_lines.specs.Line.{record_width, line_width, is_set, record_from, line_records, want_of, word_at};
 
-use rules::{Record, Records};
+use records::{Record, Records};
 use u256::U256;
 
 // The words of a record.

@@ -1,8 +1,8 @@
 -- Cycles of a listing's lines: three words a line, the op, the price and the want.
 use Rattle.std.specs.Prelude.{ℕ, cond, List, eqb, slice_index}
-use Rattle.cycle.specs.declared.State.{State}
+use Rattle.stages.specs.declared.State.{State}
 use Rattle.table.specs.declared.Op.{Op}
-use Rattle.runs.specs.Run.{input_of, requested_state}
+use Rattle.line_cycle.specs.LineCycle.{input_of, requested_state}
 use Rattle.bench_lines.specs.Bench.{Bench, Given, run_of}
 
 abbrev pub listing_width : ℕ

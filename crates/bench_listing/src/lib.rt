@@ -6,7 +6,7 @@ ghost use Rattle.bench_lines.specs.Bench.{end_of};
 ghost use Rattle.bench_listing.specs.Listing.{op_numbered, listing_step, listing_run};
 
 use bench_lines::{Benchmark, CycleOutcome};
-use cycle::State;
+use stages::State;
 use table::Op;
 
 const WIDTH: usize = 3;
@@ -36,9 +36,9 @@ impl Benchmark<u32, WIDTH> for Listing {
     #[tactic(auto, unfolding(crate::specs::Listing::listing_step))]
     fn step(&self, state: State, line: &[u32; WIDTH], store: &mut [u32]) -> CycleOutcome {
         let [op, price, want] = *line;
-        let input = runs::input_of(self.limit, op_of(op), price);
-        let given = runs::requested(state, want);
-        CycleOutcome::from(stepper::cycle(given, input, store))
+        let input = line_cycle::input_of(self.limit, op_of(op), price);
+        let given = line_cycle::requested(state, want);
+        CycleOutcome::from(cycle::cycle(given, input, store))
     }
 }
 

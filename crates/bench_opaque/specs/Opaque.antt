@@ -1,10 +1,10 @@
 -- Cycles of any records, with the same code word and source word in each.
 use Rattle.std.specs.Prelude.{ℕ, false, List}
 use Rattle.u256.specs.declared.U256.{U256}
-use Rattle.cycle.specs.declared.State.{State}
-use Rattle.stepper.specs.declared.Input.{Input}
-use Rattle.stepper.specs.Start.{settings_of}
-use Rattle.runs.specs.Run.{requested_state}
+use Rattle.stages.specs.declared.State.{State}
+use Rattle.cycle.specs.declared.Input.{Input}
+use Rattle.start.specs.Start.{settings_of}
+use Rattle.line_cycle.specs.LineCycle.{requested_state}
 use Rattle.bench_lines.specs.Bench.{Bench, Given, run_of}
 use Rattle.bench_lines.specs.Line.{line_width, line_records, want_of, word_at}
 

@@ -6,8 +6,8 @@ ghost use Rattle.bench_lines.specs.Bench.{end_of};
 ghost use Rattle.bench_opaque.specs.Opaque.{opaque_step, opaque_run};
 
 use bench_lines::{Benchmark, CycleOutcome, LINE};
-use cycle::State;
-use stepper::Input;
+use cycle::Input;
+use stages::State;
 use u256::U256;
 
 #[derive(Clone, Copy)]
@@ -26,12 +26,12 @@ impl Benchmark<u64, LINE> for Opaque {
         let input = Input {
             code: self.code,
             source: self.source,
-            settings: stepper::settings_of(self.limit, 1),
+            settings: start::settings_of(self.limit, 1),
             records: bench_lines::records_of(line),
             pointer: false,
         };
-        let given = runs::requested(state, bench_lines::want_of(line));
-        CycleOutcome::from(stepper::cycle(given, input, store))
+        let given = line_cycle::requested(state, bench_lines::want_of(line));
+        CycleOutcome::from(cycle::cycle(given, input, store))
     }
 }
 

@@ -3,8 +3,8 @@ use Rattle.std.specs.Prelude.{ℕ, ◌*◌, ◌/◌, ◌%◌, cond, List, Result
 use Rattle.refusal.specs.declared.Refusal.{Refusal}
 use Rattle.u256.specs.declared.U256.{U256}
 use Rattle.registers.specs.Registers.{empty_word}
-use Rattle.rules.specs.declared.Location.{Location}
-use Rattle.cycle.specs.declared.OperandsAnswer.{OperandsAnswer}
+use Rattle.addressing.specs.declared.Location.{Location}
+use Rattle.stages.specs.declared.OperandsAnswer.{OperandsAnswer}
 use Rattle.bench_lines.specs.Line.{word_at}
 
 -- the word of an index: four words of 64 bits make one, and after the last whole one comes the first again; less than one is the empty word

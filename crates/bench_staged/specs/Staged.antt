@@ -2,14 +2,14 @@
 use Rattle.std.specs.Prelude.{ℕ, false, List}
 use Rattle.u256.specs.declared.U256.{U256}
 use Rattle.registers.specs.Registers.{empty_word}
-use Rattle.rules.specs.declared.Records.{Records}
-use Rattle.rules.specs.declared.Settings.{Settings}
-use Rattle.cycle.specs.declared.State.{State}
-use Rattle.cycle.specs.Fetch.{query_of}
-use Rattle.stepper.specs.declared.Input.{Input}
-use Rattle.stepper.specs.Start.{settings_of}
-use Rattle.stepper.specs.Cycle.{operands_in}
-use Rattle.runs.specs.Run.{requested_state}
+use Rattle.records.specs.declared.Records.{Records}
+use Rattle.records.specs.declared.Settings.{Settings}
+use Rattle.stages.specs.declared.State.{State}
+use Rattle.stages.specs.Fetch.{query_of}
+use Rattle.cycle.specs.declared.Input.{Input}
+use Rattle.start.specs.Start.{settings_of}
+use Rattle.cycle.specs.Cycle.{operands_in}
+use Rattle.line_cycle.specs.LineCycle.{requested_state}
 use Rattle.bench_lines.specs.Bench.{Bench, Given, run_of}
 use Rattle.bench_lines.specs.Line.{line_width, line_records, want_of}
 use Rattle.bench_staged.specs.Memory.{word_read, source_told}

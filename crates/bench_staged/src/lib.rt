@@ -2,16 +2,16 @@
 #![tactic(auto)]
 
 ghost use Rattle.std.specs.Prelude.{◌≡◌};
-ghost use Rattle.stepper.specs.Cycle.{cycle_of, cycle_store};
+ghost use Rattle.cycle.specs.Cycle.{cycle_of, cycle_store};
 ghost use Rattle.bench_lines.specs.Bench.{cycle_outcome, end_of};
 ghost use Rattle.bench_staged.specs.Staged.{staged_input, staged_step, staged_run};
 
 mod memory;
 
 use bench_lines::{Benchmark, CycleOutcome, LINE};
-use cycle::State;
+use records::{Records, Settings};
 use refusal::Refusal;
-use rules::{Records, Settings};
+use stages::State;
 
 // Not by stepper's `refused_at`: each call would name a stage, which the outcome leaves out.
 fn refused(state: State, refusal: Refusal) -> CycleOutcome
@@ -23,9 +23,9 @@ fn refused(state: State, refusal: Refusal) -> CycleOutcome
     }
 }
 
-// The four stages, as in `stepper::cycle`: called here, each is inlined, and the source is answered between two of them.
+// The four stages, as in `cycle::cycle`: called here, each is inlined, and the source is answered between two of them.
 // A refusal answers the state with it, so there is no `?`.
-#[tactic(auto, unfolding(crate::specs::Staged::staged_input, stepper::specs::Cycle::cycle_of, stepper::specs::Cycle::cycle_store))]
+#[tactic(auto, unfolding(crate::specs::Staged::staged_input, cycle::specs::Cycle::cycle_of, cycle::specs::Cycle::cycle_store))]
 fn cycle_by_stages(
     state: State,
     settings: Settings,
@@ -74,9 +74,9 @@ impl Benchmark<u64, LINE> for Served<'_> {
     // A line's cycle, with its want in register 1.
     #[tactic(auto, unfolding(crate::specs::Staged::staged_step))]
     fn step(&self, state: State, line: &[u64; LINE], store: &mut [u32]) -> CycleOutcome {
-        let settings = stepper::settings_of(self.limit, 1);
+        let settings = start::settings_of(self.limit, 1);
         let records = bench_lines::records_of(line);
-        let given = runs::requested(state, bench_lines::want_of(line));
+        let given = line_cycle::requested(state, bench_lines::want_of(line));
         cycle_by_stages(given, settings, records, self.words, store)
     }
 }

@@ -2,7 +2,7 @@
 ghost use Rattle.std.specs.Prelude.{◌≡◌};
 ghost use Rattle.bench_staged.specs.Memory.{word_indexed, word_read};
 
-use rules::Location;
+use addressing::Location;
 use u256::U256;
 
 // The index by a cast, since `From` makes no `usize` of a `u32`.

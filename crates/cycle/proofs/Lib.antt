@@ -1,5 +1,1 @@
-pub mod CheckLaws
-pub mod OperandsLaws
-pub mod NearCallLaws
-pub mod AnswerLaws
-pub mod ExecuteLaws
+pub mod CycleLaws

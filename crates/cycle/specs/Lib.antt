@@ -1,12 +1,1 @@
-pub mod State
-pub mod Fetch
-pub mod Decode
-pub mod Operands
-pub mod Effects
-pub mod Helpers
-pub mod NearCall
-pub mod Ret
-pub mod Arithmetic
-pub mod Execute
-pub mod Answers
-pub mod Tells
+pub mod Cycle

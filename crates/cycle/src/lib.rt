@@ -1,113 +1,115 @@
-// The machine state, and the stages of a cycle as methods on it. Settings and the frame store are given with each call, as document 01 has it: any are answered.
+// A whole cycle: the one place that calls the four stages, for all that run a list. Each stage is called once here, so that the compiler inlines all
+// four in the caller's loop.
 #![tactic(auto)]
 
-mod arithmetic;
-mod decode;
-mod execute;
-mod fetch;
-mod helpers;
-mod near_call;
-mod operands;
-mod ret;
+ghost use Rattle.std.specs.Prelude.{◌≡◌};
+ghost use Rattle.cycle.specs.Cycle.{refused_at, cycle_of, cycle_store, cycle_number, cycle_charge};
 
-use frame::{Frame, PubdataCost};
+use addressing::Location;
+use records::{Records, Settings};
 use refusal::Refusal;
-use rules::{ErrorFlags, Flags, Location, PrimitiveValue, Record};
+use stages::{DecodeAnswer, ExecuteAnswer, FetchAnswer, OperandsAnswer, Stage, State};
 use u256::U256;
 
-// The stages of a cycle, in turn. Cast to its number where a state's stage is written or compared: a `From` would hold that cast and no more.
+// What a cycle is given: the code word that fetch is handed, and the source word of execute with its pointer bit.
+#[derive(Clone, Copy)]
+pub struct Input {
+    pub code: U256,
+    pub source: U256,
+    pub settings: Settings,
+    pub records: Records,
+    pub pointer: bool,
+}
+
+// The code read that was wanted, and the four answers.
+#[derive(Clone, Copy)]
+pub struct CycleAnswer {
+    pub read: Location,
+    pub fetch: FetchAnswer,
+    pub decode: DecodeAnswer,
+    pub operands: OperandsAnswer,
+    pub execute: ExecuteAnswer,
+}
+
+// A refusal, and the stage that gave it.
 #[derive(Clone, Copy, Debug, PartialEq, Eq)]
-pub enum Stage {
-    Fetch,
-    Decode,
-    Operands,
-    Execute,
-}
-
-// What decode and operands keep for the stages after them.
-#[derive(Clone, Copy)]
-pub struct Kept {
-    pub instruction: Record,
-    pub write: Location,
-}
-
-// The fields of the Rust's `VmLocalState` that the stages use, the current frame, and what one stage leaves to the next. A pointer bit
-// beside its word, or a hole of 3, 5, 6 or 7 bytes, would slow each copy down; that of fetched_word does not (98.7 instructions for the listing's cycle, as before).
-#[derive(Clone, Copy)]
-pub struct State {
-    pub registers: [U256; 15],
-    pub current: Frame,
-    pub previous_code_word: U256,
-    // the word that fetch read, if it read one
-    pub fetched_word: Option<U256>,
-    pub kept: Kept,
-    pub flags: Flags,
-    pub previous_code_memory_page: u32,
-    pub timestamp: u32,
-    pub monotonic_cycle_counter: u32,
-    pub depth: u32,
-    pub pubdata_revert_counter: PubdataCost,
-    pub previous_super_pc: u16,
-    pub pointers: [bool; 15],
-    // the number of the stage that comes next; a number, since a state with any other has to be answered too
-    pub stage: u8,
-    pub pending_exception: bool,
-}
-
-// 64 bits of code, or that an exception is pending, or that execution has ended.
-#[derive(Clone, Copy)]
-pub enum FetchAnswer {
-    Code(u64),
-    Exception,
-    Nop,
+pub struct CycleRefusal {
+    pub refusal: Refusal,
+    pub stage: Stage,
 }
 
 #[derive(Clone, Copy)]
-pub struct DecodeAnswer {
-    pub charge: u32,
-    pub errors: ErrorFlags,
-}
-
-#[derive(Clone, Copy)]
-pub struct OperandsAnswer {
-    pub source: Location,
-    pub destination: Location,
-}
-
-// What is to be written to memory; the kind is the number that the state's location has.
-#[derive(Clone, Copy)]
-pub struct Write {
-    pub memory_type: u8,
-    pub page: u32,
-    pub index: u32,
-    pub time: u32,
-    pub value: PrimitiveValue,
-}
-
-// What happened to the frames: closed carries its panicked bit.
-#[derive(Clone, Copy)]
-pub enum Event {
-    Opened,
-    Closed(bool),
-}
-
-#[derive(Clone, Copy)]
-pub struct ExecuteAnswer {
-    pub write: Option<Write>,
-    pub event: Option<Event>,
-}
-
-// A stage's state after it, and what it answers.
-#[derive(Clone, Copy)]
-pub struct Staged<A> {
+pub struct Cycled {
     pub state: State,
-    pub answer: Result<A, Refusal>,
+    pub answer: Result<CycleAnswer, CycleRefusal>,
 }
 
-pub type Fetched = Staged<FetchAnswer>;
+fn refused_at(state: State, refusal: Refusal, stage: Stage) -> Cycled
+    ensures { result ≡ refused_at state refusal stage }
+{
+    Cycled {
+        state: state.apart(),
+        answer: Err(CycleRefusal { refusal, stage }),
+    }
+}
 
-pub type Decoded = Staged<DecodeAnswer>;
+// No `?`: a refusal goes back with the state of the stage that gave it.
+#[tactic(auto, unfolding(crate::specs::Cycle::cycle_of, crate::specs::Cycle::cycle_store))]
+pub fn cycle(state: State, input: Input, store: &mut [u32]) -> Cycled
+    ensures { (result ≡ cycle_of input state store.old) × (store.new ≡ cycle_store input state store.old) }
+{
+    let settings = input.settings;
+    let read = state.code_query();
+    let fetched = state.fetch(settings, store, input.code);
+    let fetch = match fetched.answer {
+        Ok(answer) => answer,
+        Err(refusal) => return refused_at(fetched.state, refusal, Stage::Fetch),
+    };
+    let decoded = fetched.state.decode(settings, store, input.records);
+    let decode = match decoded.answer {
+        Ok(answer) => answer,
+        Err(refusal) => return refused_at(decoded.state, refusal, Stage::Decode),
+    };
+    let addressed = decoded.state.operands(settings, store);
+    let operands = match addressed.answer {
+        Ok(answer) => answer,
+        Err(refusal) => return refused_at(addressed.state, refusal, Stage::Operands),
+    };
+    let executed = addressed
+        .state
+        .execute(settings, store, input.source, input.pointer);
+    let execute = match executed.answer {
+        Ok(answer) => answer,
+        Err(refusal) => return refused_at(executed.state, refusal, Stage::Execute),
+    };
+    Cycled {
+        state: executed.state.apart(),
+        answer: Ok(CycleAnswer {
+            read,
+            fetch,
+            decode,
+            operands,
+            execute,
+        }),
+    }
+}
 
-pub type Addressed = Staged<OperandsAnswer>;
+// The refusal's number, 0 where there is none. No crate here calls it: it stays since it was promised, and refusals are told by number outside.
+pub fn cycle_number(answer: Result<CycleAnswer, CycleRefusal>) -> u32
+    ensures { result ≡ cycle_number answer }
+{
+    match answer {
+        Ok(_) => 0,
+        Err(error) => error.refusal.number(),
+    }
+}
 
-pub type Executed = Staged<ExecuteAnswer>;
+// What a cycle charged: 0 for a refused one, also where decode had charged.
+pub fn cycle_charge(answer: Result<CycleAnswer, CycleRefusal>) -> u32
+    ensures { result ≡ cycle_charge answer }
+{
+    match answer {
+        Ok(done) => done.decode.charge,
+        Err(_) => 0,
+    }
+}

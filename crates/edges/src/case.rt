@@ -1,10 +1,11 @@
 // One cycle from a ready state, and what came of it.
-use cycle::{Event, FetchAnswer, State};
+use addressing::Location;
+use cycle::{CycleAnswer, Input};
 use frame::{Frame, PubdataCost, ROW_WIDTH};
+use records::Record;
+use records::kinds::Operation;
 use refusal::Refusal;
-use rules::kinds::Operation;
-use rules::{Location, Record};
-use stepper::{CycleAnswer, Input};
+use stages::{Event, FetchAnswer, State};
 use u256::U256;
 
 const LIMIT: u32 = 4;
@@ -41,7 +42,7 @@ pub(crate) struct Came {
 impl Case {
     pub(crate) fn new(operation: Operation) -> Case {
         Case {
-            state: stepper::start_state(0, 0),
+            state: start::start_state(0, 0),
             plain: Record {
                 operation: operation as u8,
                 ..Record::default()
@@ -63,11 +64,11 @@ impl Case {
         let input = Input {
             code: self.code,
             source: U256::default(),
-            settings: stepper::settings_of(LIMIT, self.multiplier),
-            records: stepper::records_of(self.plain),
+            settings: start::settings_of(LIMIT, self.multiplier),
+            records: start::records_of(self.plain),
             pointer: false,
         };
-        let cycled = stepper::cycle(self.state, input, &mut store);
+        let cycled = cycle::cycle(self.state, input, &mut store);
         let done = cycled.answer.map_err(|refused| refused.refusal)?;
         let caller = frame::read_frame(&store, 1)?;
         Ok(came_of(cycled.state, done, caller.ergs_remaining))

@@ -2,7 +2,7 @@
 use crate::case::{Came, Case};
 use crate::shown::{Frames, Index};
 use frame::PubdataCost;
-use rules::kinds::{OperandKind, Operation, ReturnKind};
+use records::kinds::{OperandKind, Operation, ReturnKind};
 use u256::U256;
 
 const MOST: U256 = U256 {

@@ -1,6 +1,6 @@
 // How a location and an event are printed.
-use cycle::Event;
-use rules::Location;
+use addressing::Location;
+use stages::Event;
 use std::fmt::{self, Display, Formatter};
 
 // The index of a location.

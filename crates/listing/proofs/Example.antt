@@ -6,29 +6,29 @@ use Rattle.frame.specs.Kernel.{kernel_mode}
 use Rattle.frame.specs.Store.{saved_store, read_of}
 use Rattle.signed.specs.Signed.{checked_of, word_of, signed_of}
 use Rattle.u256.specs.U256.{sum_of, difference_of, is_zero}
-use Rattle.rules.specs.Code.{code_bits}
-use Rattle.rules.specs.Record.{bad_records}
-use Rattle.rules.specs.Charge.{error_flags}
-use Rattle.rules.specs.Address.{source_at, destination_at, places_of}
-use Rattle.rules.specs.Sources.{sources_of}
-use Rattle.rules.specs.NearCall.{caller_of, opened_of}
-use Rattle.rules.specs.Ret.{resumed_with, resumed_of}
-use Rattle.rules.specs.Arithmetic.{flags_after}
-use Rattle.cycle.specs.Effects.{finished_state, moved_state, written_state, switched_state}
-use Rattle.cycle.specs.Fetch.{fetched_state, fetch_done, fetch_of, query_of}
-use Rattle.cycle.specs.Decode.{decoded_state, decode_done, decode_of}
-use Rattle.cycle.specs.Operands.{addressed_state, operands_done, operands_of}
-use Rattle.cycle.specs.Helpers.{nop_done, nop_of}
-use Rattle.cycle.specs.NearCall.{near_call_done, near_call_of, near_call_store}
-use Rattle.cycle.specs.Arithmetic.{arithmetic_done, arithmetic_of}
-use Rattle.cycle.specs.Ret.{close_done, close_of, return_of}
-use Rattle.cycle.specs.Execute.{execute_done, execute_of, execute_store}
-use Rattle.stepper.specs.Cycle.{cycle_of, cycle_store}
+use Rattle.decoding.specs.Code.{code_bits}
+use Rattle.records.specs.Record.{bad_records}
+use Rattle.decoding.specs.Charge.{error_flags}
+use Rattle.addressing.specs.Address.{source_at, destination_at, places_of}
+use Rattle.addressing.specs.Sources.{sources_of}
+use Rattle.operations.specs.NearCall.{caller_of, opened_of}
+use Rattle.operations.specs.Ret.{resumed_with, resumed_of}
+use Rattle.operations.specs.Arithmetic.{flags_after}
+use Rattle.stages.specs.Effects.{finished_state, moved_state, written_state, switched_state}
+use Rattle.stages.specs.Fetch.{fetched_state, fetch_done, fetch_of, query_of}
+use Rattle.stages.specs.Decode.{decoded_state, decode_done, decode_of}
+use Rattle.stages.specs.Operands.{addressed_state, operands_done, operands_of}
+use Rattle.stages.specs.Helpers.{nop_done, nop_of}
+use Rattle.stages.specs.NearCall.{near_call_done, near_call_of, near_call_store}
+use Rattle.stages.specs.Arithmetic.{arithmetic_done, arithmetic_of}
+use Rattle.stages.specs.Ret.{close_done, close_of, return_of}
+use Rattle.stages.specs.Execute.{execute_done, execute_of, execute_store}
+use Rattle.cycle.specs.Cycle.{cycle_of, cycle_store}
 use Rattle.tally.specs.Tally.{enter_of, tally_after}
 use Rattle.text.specs.Bytes.{bytes_of}
 use Rattle.text.specs.Number.{number_of}
 use Rattle.table.specs.Line.{op_of, line_of, start_of}
-use Rattle.runs.specs.Run.{input_of, requested_state, ran_of, store_after, entries_after, printed_row}
+use Rattle.line_cycle.specs.LineCycle.{input_of, requested_state, ran_of, store_after, entries_after, printed_row}
 use Rattle.listing.specs.Listing.{third_on, second_on, first_on, listing_of}
 
 pub example : listing_of (bytes_of "ergs limit\n1000 4\nop price want\nadd 6 0\ncall 25 300\nadd 6 0\nok 5 0\ncall 25 0\nrevert 5 0\n")

@@ -11,7 +11,7 @@ use Rattle.table.specs.Row.{row_text, bad_line, refused_with}
 use Rattle.std.specs.Prelude.{Ok, Err}
 use Rattle.refusal.specs.declared.Refusal.{Refusal}
 use Rattle.refusal.specs.Refusal.{paper_number}
-use Rattle.runs.specs.Run.{Run, ran_of, run_after, printed_row}
+use Rattle.line_cycle.specs.LineCycle.{Run, ran_of, run_after, printed_row}
 use Rattle.listing.specs.Listing.{lines_text}
 
 -- where the line that begins at a position ends: at its line end, or with the input

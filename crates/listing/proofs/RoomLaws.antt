@@ -22,7 +22,7 @@ use Rattle.table.proofs.RowLaws.{row_length, labelled_length}
 use Rattle.std.specs.Prelude.{Result, Ok, Err}
 use Rattle.refusal.specs.declared.Refusal.{Refusal}
 use Rattle.refusal.specs.Refusal.{paper_number}
-use Rattle.runs.specs.Run.{Run, start_run, ran_of, run_after, printed_row}
+use Rattle.line_cycle.specs.LineCycle.{Run, start_run, ran_of, run_after, printed_row}
 use Rattle.listing.proofs.ListingLaws.{cycle_row}
 use Rattle.listing.specs.Listing.{going_on, line_text, lines_text, named, third_on, started, second_on, first_on, listing_of}
 

@@ -9,7 +9,7 @@ use Rattle.table.specs.Line.{line_of, start_of}
 use Rattle.table.specs.Row.{row_text, bad_line, refused_with, names_line}
 use Rattle.refusal.specs.declared.Refusal.{Refusal}
 use Rattle.refusal.specs.Refusal.{paper_number}
-use Rattle.runs.specs.Run.{Run, start_run, ran_of, run_after, printed_row}
+use Rattle.line_cycle.specs.LineCycle.{Run, start_run, ran_of, run_after, printed_row}
 
 -- what a line's cycle prints, which goes on so where nothing is refused
 abbrev pub going_on : Result (Unit {0}) Refusal → List ℕ → List ℕ

@@ -5,7 +5,7 @@ ghost use Rattle.std.specs.Prelude.{◌≡◌, ◌≤◌, [], length, take, drop
 ghost use Rattle.text.specs.Bytes.{Wrote};
 ghost use Rattle.text.specs.Lines.{lines_left};
 ghost use Rattle.table.specs.Row.{bad_line};
-ghost use Rattle.runs.specs.Run.{start_run};
+ghost use Rattle.line_cycle.specs.LineCycle.{start_run};
 ghost use Rattle.listing.specs.Listing.{lines_text, first_on, listing_of};
 
 use table::Start;
@@ -32,17 +32,17 @@ fn put_cycles(start: Start, lines: Lines<'_>, writer: &mut Writer<'_>)
 {
     let mut store = [0u32; STORE];
     let mut tally = [0u64; TALLY];
-    let mut state = stepper::start_state(start.ergs, 0);
+    let mut state = start::start_state(start.ergs, 0);
     for (line, cycle) in lines.zip(1u64..) {
         let Some(line) = table::line_of(line) else {
             return table::put_bad_line(writer, cycle + 3);
         };
-        let ran = runs::run_line(state, start.limit, &mut store, &mut tally, line);
+        let ran = line_cycle::run_line(state, start.limit, &mut store, &mut tally, line);
         if let Err(refusal) = ran.answer {
             return table::put_refused(writer, refusal.number());
         }
         state = ran.state;
-        let row = runs::row_of(cycle, line.op, ran.charge, state, &store, &tally);
+        let row = line_cycle::row_of(cycle, line.op, ran.charge, state, &store, &tally);
         table::put_row(writer, row);
     }
 }

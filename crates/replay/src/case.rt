@@ -2,10 +2,10 @@
 ghost use Rattle.std.specs.Prelude.{◌≤◌};
 
 use crate::numbers::Numbers;
-use cycle::{Executed, Stage, State};
+use cycle::{Cycled, Input};
 use frame::{Frame, PubdataCost, ROW_WIDTH};
-use rules::{Flags, Record, Records, Settings};
-use stepper::{Cycled, Input};
+use records::{Flags, Record, Records, Settings};
+use stages::{Executed, Stage, State};
 use u256::U256;
 
 // The greatest limit and depth that are served.
@@ -55,7 +55,7 @@ impl Case {
 
     // A whole cycle, from the state as it is: ready.
     pub(crate) fn cycle(&mut self) -> Cycled {
-        stepper::cycle(self.state, self.input, self.rows())
+        cycle::cycle(self.state, self.input, self.rows())
     }
 
     // Execute alone, from the state in mid-cycle that keeps the plain record.
@@ -119,7 +119,7 @@ fn state(numbers: &mut Numbers) -> Option<State> {
         pubdata_revert_counter: PubdataCost(signed::from_word(numbers.read()?)),
         depth: rows(numbers)?,
         current: current(numbers)?,
-        ..stepper::start_state(0, 0)
+        ..start::start_state(0, 0)
     })
 }
 

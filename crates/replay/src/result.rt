@@ -1,12 +1,13 @@
 // A result, written on a line number by number, as compare/README.md lists them. What is not there is 0.
 use crate::case::{STORE, words_of};
-use cycle::{
-    DecodeAnswer, Event, ExecuteAnswer, Executed, FetchAnswer, OperandsAnswer, Stage, State, Write,
-};
+use addressing::Location;
+use cycle::Cycled;
+use decoding::ErrorFlags;
 use frame::{Frame, ROW_WIDTH};
 use refusal::Refusal;
-use rules::{ErrorFlags, Location};
-use stepper::Cycled;
+use stages::{
+    DecodeAnswer, Event, ExecuteAnswer, Executed, FetchAnswer, OperandsAnswer, Stage, State, Write,
+};
 use text::Writer;
 use u256::U256;
 

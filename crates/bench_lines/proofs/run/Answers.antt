@@ -2,7 +2,7 @@ use Rattle.std.proofs.Common.{◌≡◌, ◌+◌, ◌%◌, ◌^◌, ◌<◌, ◌
 use Rattle.std.specs.Option.{is_none}
 use Rattle.std.specs.Result.{result_err}
 use Rattle.std.proofs.lemmas.Bool.Decides.{nat_tests}
-use Rattle.stepper.specs.Start.{start_state}
+use Rattle.start.specs.Start.{start_state}
 use Rattle.bench_lines.specs.Bench.{Bench, charged_after, line_turn, run_of}
 use Rattle.bench_lines.proofs.TurnsLaws.{Came, so_far, start, turned, over}
 use Rattle.bench_lines.proofs.run.Goals as goal

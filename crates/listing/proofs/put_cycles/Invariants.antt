@@ -1,7 +1,7 @@
 use Rattle.std.proofs.Common.{◌+◌, ◌≤◌, ◌^◌, length}
 use Rattle.std.specs.Iterator.Adapters.{zip_first, zip_second}
 use Rattle.text.specs.Lines.{lines_left}
-use Rattle.runs.specs.Run.{start_run}
+use Rattle.line_cycle.specs.LineCycle.{start_run}
 use Rattle.listing.specs.Listing.{lines_text}
 use Rattle.listing.proofs.ListingLaws.{Going}
 use Rattle.listing.proofs.put_cycles.Given as goal

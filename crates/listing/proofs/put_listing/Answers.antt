@@ -2,7 +2,7 @@ use Rattle.std.proofs.Common.{arith, length}
 use borrow.Author.Tests.{lt-ltb, le-ltb}
 use Rattle.text.proofs.BytesLaws.{join}
 use Rattle.table.specs.Row.{names_line, bad_line}
-use Rattle.runs.specs.Run.{start_run}
+use Rattle.line_cycle.specs.LineCycle.{start_run}
 use Rattle.text.specs.Lines.{lines_left}
 use Rattle.listing.specs.Listing.{lines_text, listing_of}
 use Rattle.listing.proofs.put_listing.Goals as goal

@@ -1,5 +1,0 @@
-use Rattle.calls.proofs.AnswersLaws.{every_call_answers}
-use Rattle.calls.proofs.every_call_answers.Goals as goal
-
-pub returns : goal.returns
-returns c = every_call_answers

@@ -1,0 +1,136 @@
+-- The edges that document 01 marks P, in its words and order, each computed by the definitions that the stages are proved equal to.
+use Rattle.std.specs.Prelude.{ℕ, ◌-◌, ◌^◌, true, false, ◌≡◌, List, [], ◌∷◌, ◌++◌, Option, None, Some, Result, Ok, Err, replicate}
+use mir.Val.{bool_byte}
+use Rattle.u256.specs.U256.{value_of, words_of, one_word}
+use Rattle.refusal.specs.declared.Refusal.{Refusal}
+use Rattle.refusal.specs.Refusal.{paper_number}
+use Rattle.frame.specs.Row.{frame_of}
+use Rattle.frame.specs.Store.{row_at}
+use Rattle.registers.specs.Registers.{empty_word, register_of}
+use Rattle.records.specs.declared.Flags.{Flags}
+use Rattle.decoding.specs.Charge.{any_error}
+use Rattle.stages.specs.declared.State.{State}
+use Rattle.stages.specs.declared.Staged.{Staged}
+use Rattle.stages.specs.declared.DecodeAnswer.{DecodeAnswer}
+use Rattle.stages.specs.declared.OperandsAnswer.{OperandsAnswer}
+use Rattle.stages.specs.declared.Event.{Event}
+use Rattle.stages.specs.declared.ExecuteAnswer.{ExecuteAnswer}
+use Rattle.stages.specs.Effects.{moved_state, no_record}
+use Rattle.stages.specs.Fetch.{query_of, fetch_of}
+use Rattle.stages.specs.Decode.{decode_of}
+use Rattle.stages.specs.Operands.{operands_of}
+use Rattle.stages.specs.Execute.{execute_of, execute_store}
+use Rattle.stages.specs.Answers.{location_case, fetch_case}
+use Rattle.start.specs.Start.{instruction, records_of, state_at, settings_of, empty_store}
+
+pub record Edge : Type 0 where
+  pub computed : List ℕ
+  pub stated : List ℕ
+
+-- decode of an add with this price at so many ergs: the ergs left, whether there is a flag, NOT_ENOUGH_ERGS, the charge, the operation and the return kind kept
+abbrev figures : State → Result DecodeAnswer Refusal → List ℕ
+figures s (Ok answer) =
+    s.current.ergs_remaining
+    ∷ bool_byte (any_error answer.errors)
+    ∷ bool_byte answer.errors.not_enough_ergs
+    ∷ answer.charge
+    ∷ s.kept.instruction.operation
+    ∷ s.kept.instruction.return_kind
+    ∷ []
+figures s (Err refusal) = paper_number refusal ∷ []
+
+abbrev pub decodes : ℕ → ℕ → List ℕ
+decodes ergs price = figures after.state after.answer
+  where
+    after : Staged DecodeAnswer
+    after =
+        decode_of (settings_of 4 1) (records_of (instruction 1 0 0 0 0 0 0 0 0 price false)) (state_at 1 (replicate 15 empty_word) ergs 0 no_record)
+        (empty_store 4)
+
+-- a near call that requests so much, at this multiplier and so many ergs: the depth afterwards, what is given, and what is kept in the caller's row
+abbrev opening : State → Option Event → List ℕ → List ℕ
+opening s (Some Event.Opened) row = s.depth ∷ s.current.ergs_remaining ∷ (frame_of row).ergs_remaining ∷ []
+opening s (Some (Event.Closed panicked)) row = []
+opening s None row = []
+
+abbrev division : State → Result ExecuteAnswer Refusal → List ℕ → List ℕ
+division s (Ok answer) row = opening s answer.event row
+division s (Err refusal) row = paper_number refusal ∷ []
+
+abbrev pub calls : ℕ → ℕ → ℕ → List ℕ
+calls multiplier held want =
+    division after.state after.answer (row_at (execute_store (settings_of 4 multiplier) empty_word false s (empty_store 4)) 1)
+  where
+    s : State
+    s = state_at 3 (one_word want ∷ replicate 14 empty_word) held 0 (instruction 3 0 0 0 1 0 0 0 0 0 false)
+
+    after : Staged ExecuteAnswer
+    after = execute_of (settings_of 4 multiplier) empty_word false s (empty_store 4)
+
+-- operands of these kinds (2 is push/pop) with these immediates, at this sp: the source and the destination, each 0 for none or 1, memory kind, page and index,
+-- and sp afterwards
+abbrev places : State → Result OperandsAnswer Refusal → List ℕ
+places s (Ok answer) = location_case answer.source ++ (location_case answer.destination ++ (s.current.sp ∷ []))
+places s (Err refusal) = paper_number refusal ∷ []
+
+abbrev pub addresses : ℕ → ℕ → ℕ → ℕ → ℕ → List ℕ
+addresses source destination imm0 imm1 sp = places after.state after.answer
+  where
+    after : Staged OperandsAnswer
+    after = operands_of (settings_of 4 1) (state_at 2 (replicate 15 empty_word) 0 sp (instruction 1 0 source destination 0 0 0 imm0 imm1 0 false)) (empty_store 4)
+
+-- an operation (1 add, 2 sub) of registers 1 and 2 into register 3, with set flags: the result, then overflow, equal, greater
+abbrev bits : Flags → List ℕ
+bits f = bool_byte f.overflow_or_less_than_flag ∷ bool_byte f.equality_flag ∷ bool_byte f.greater_than_flag ∷ []
+
+abbrev pub combines : ℕ → ℕ → ℕ → List ℕ
+combines operation a b = value_of (register_of after.registers 3) ∷ bits after.flags
+  where
+    after : State
+    after =
+        (execute_of (settings_of 4 1) empty_word false
+        (state_at 3 (words_of a ∷ words_of b ∷ replicate 13 empty_word) 0 0 (instruction operation 0 0 0 1 2 3 0 0 0 true)) (empty_store 4)).state
+
+-- a nop at this pc: the code word that the query asks for, as a location; what fetch answers, 0 for code and the part of the word (each part holds its number, the
+-- highest 64 bits 0); and pc afterwards
+abbrev pub steps : ℕ → List ℕ
+steps pc =
+    location_case (query_of (at 0))
+    ++ (fetch_case (fetch_of (settings_of 4 1) (record { w0 = 3; w1 = 2; w2 = 1; w3 = 0 }) (at 0) (empty_store 4)).answer
+    ++ ((execute_of (settings_of 4 1) empty_word false (at 3) (empty_store 4)).state.current.pc ∷ []))
+  where
+    at : ℕ → State
+    at stage = moved_state (state_at stage (replicate 15 empty_word) 0 0 no_record) pc
+
+abbrev pub edges : List Edge
+edges =
+    -- "ergs 100: price 100 leaves 0, no flag; price 101 leaves 0, panic, charge 100"
+    record { computed = decodes 100 100; stated = 0 ∷ 0 ∷ 0 ∷ 100 ∷ 1 ∷ 0 ∷ [] }
+    ∷ record { computed = decodes 100 101; stated = 0 ∷ 1 ∷ 1 ∷ 100 ∷ 4 ∷ 2 ∷ [] }
+    -- "held 969: want 300 gives 300 and keeps 669; want 0, 969 or 970 gives 969 and keeps 0"
+    ∷ record { computed = calls 1 969 300; stated = 2 ∷ 300 ∷ 669 ∷ [] }
+    ∷ record { computed = calls 1 969 0; stated = 2 ∷ 969 ∷ 0 ∷ [] }
+    ∷ record { computed = calls 1 969 969; stated = 2 ∷ 969 ∷ 0 ∷ [] }
+    ∷ record { computed = calls 1 969 970; stated = 2 ∷ 969 ∷ 0 ∷ [] }
+    -- "want 2,147,483,648 times 2 passes all"
+    ∷ record { computed = calls 2 969 2147483648; stated = 2 ∷ 969 ∷ 0 ∷ [] }
+    -- "sp 0, pop 1: index and sp 65,535"
+    ∷ record { computed = addresses 2 0 1 0 0; stated = 1 ∷ 1 ∷ 1 ∷ 65535 ∷ 0 ∷ 65535 ∷ [] }
+    -- "sp 65,535, push 1: index 65,535, sp 0"
+    ∷ record { computed = addresses 0 2 0 1 65535; stated = 0 ∷ 1 ∷ 1 ∷ 1 ∷ 65535 ∷ 0 ∷ [] }
+    -- "sp 10, pop 1 and push 2 together: both index 9, sp 11"
+    ∷ record { computed = addresses 2 2 1 2 10; stated = 1 ∷ 1 ∷ 1 ∷ 9 ∷ 1 ∷ 1 ∷ 1 ∷ 9 ∷ 11 ∷ [] }
+    -- "(2^256 - 1) + 1: 0, overflow and equal"
+    ∷ record { computed = combines 1 (2 ^ 256 - 1) 1; stated = 0 ∷ 1 ∷ 1 ∷ 0 ∷ [] }
+    -- "0 - 1: overflow only"
+    ∷ record { computed = combines 2 0 1; stated = (2 ^ 256 - 1) ∷ 1 ∷ 0 ∷ 0 ∷ [] }
+    -- "5 - 5: equal only"
+    ∷ record { computed = combines 2 5 5; stated = 0 ∷ 0 ∷ 1 ∷ 0 ∷ [] }
+    -- "pc 65,535: super 16,383, sub 3, next 0"
+    ∷ record { computed = steps 65535; stated = 1 ∷ 2 ∷ 0 ∷ 16383 ∷ 0 ∷ 3 ∷ 0 ∷ [] }
+    ∷ []
+
+-- every line of the table holds
+abbrev pub AllHold : List Edge → Type 0
+AllHold [] = Unit {0}
+AllHold (e ∷ es) = (e.computed ≡ e.stated) × AllHold es

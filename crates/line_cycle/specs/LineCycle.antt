@@ -1,0 +1,115 @@
+-- One line's cycle. Document 01: "multiplier 1, time step 4"; "It starts at depth 1 in a far frame, an ergs-free frame below. All of the state, records and words that
+-- no line sets is 0 or no, but for the masked records' operations and a call's register."
+use Rattle.std.specs.Prelude.{ℕ, ◌+◌, false, cond, List, Result, Ok, Err, replicate, set, get_or}
+use Rattle.std.specs.Result.{is_ok}
+use Rattle.u256.specs.U256.{one_word}
+use Rattle.frame.specs.Store.{saved_ergs}
+use Rattle.registers.specs.Registers.{empty_word}
+use Rattle.records.specs.declared.Record.{Record}
+use Rattle.stages.specs.declared.State.{State}
+use Rattle.cycle.specs.declared.Input.{Input}
+use Rattle.cycle.specs.declared.Cycled.{Cycled}
+use Rattle.start.specs.Start.{instruction, records_of, settings_of, start_state, empty_store}
+use Rattle.cycle.specs.declared.CycleAnswer.{CycleAnswer}
+use Rattle.cycle.specs.declared.CycleRefusal.{CycleRefusal}
+use Rattle.cycle.specs.Cycle.{cycle_of, cycle_store, cycle_charge}
+use Rattle.refusal.specs.declared.Refusal.{Refusal}
+use Rattle.tally.specs.Tally.{enter_of, tally_after}
+use Rattle.table.specs.declared.Op.{Op}
+use Rattle.table.specs.declared.Line.{Line}
+use Rattle.line_cycle.specs.declared.Ran.{Ran}
+use Rattle.table.specs.declared.Row.{Row}
+
+-- the machine state with what is lent to it
+pub record Run : Type 0 where
+  pub state : State
+  pub store : List ℕ
+  pub tally : List ℕ
+
+abbrev pub start_run : ℕ → Run
+start_run ergs = record { state = start_state ergs 0; store = empty_store 16; tally = replicate 17 0 }
+
+-- operation (1 add, 3 near call, 4 return), return kind (0 ok, 1 revert, 2 panic), src0 and price
+abbrev pub plain_record : ℕ → ℕ → ℕ → ℕ → Record
+plain_record operation kind src0 price = instruction operation kind 0 0 src0 0 0 0 0 price false
+
+-- the instruction of each op; a call's src0 is register 1
+abbrev pub op_record : Op → ℕ → Record
+op_record Op.Add price = plain_record 1 0 0 price
+op_record Op.Call price = plain_record 3 0 1 price
+op_record Op.Ok price = plain_record 4 0 0 price
+op_record Op.Revert price = plain_record 4 1 0 price
+op_record Op.Panic price = plain_record 4 2 0 price
+
+unfoldable pub input_of : ℕ → Op → ℕ → Input
+input_of limit op price = record {
+  code = empty_word;
+  source = empty_word;
+  settings = settings_of limit 1;
+  records = records_of (op_record op price);
+  pointer = false;
+}
+
+-- the request of a line in register 1
+unfoldable pub requested_state : State → ℕ → State
+requested_state s want = record {
+  registers = set s.registers 0 (one_word want);
+  current = s.current;
+  previous_code_word = s.previous_code_word;
+  fetched_word = s.fetched_word;
+  kept = s.kept;
+  flags = s.flags;
+  previous_code_memory_page = s.previous_code_memory_page;
+  timestamp = s.timestamp;
+  monotonic_cycle_counter = s.monotonic_cycle_counter;
+  depth = s.depth;
+  pubdata_revert_counter = s.pubdata_revert_counter;
+  previous_super_pc = s.previous_super_pc;
+  pointers = s.pointers;
+  stage = s.stage;
+  pending_exception = s.pending_exception;
+}
+
+abbrev pub cycle_in : ℕ → Line → Run → Cycled
+cycle_in limit line b = cycle_of (input_of limit line.op line.price) (requested_state b.state line.want) b.store
+
+-- the refusal of the cycle, or, where it is finished, the tally's answer to its entry
+abbrev pub entry_of : ℕ → ℕ → List ℕ → Cycled → Result CycleAnswer CycleRefusal → Result (Unit {0}) Refusal
+entry_of limit before tally c (Ok answer) = enter_of tally limit before c.state.depth (cycle_charge c.answer)
+entry_of limit before tally c (Err refused) = Err refused.refusal
+
+-- what a line's cycle gives
+unfoldable pub ran_of : ℕ → Line → Run → Ran
+ran_of limit line b = record {
+  state = (cycle_in limit line b).state;
+  charge = cycle_charge (cycle_in limit line b).answer;
+  answer = entry_of limit b.state.depth b.tally (cycle_in limit line b) (cycle_in limit line b).answer;
+}
+
+unfoldable pub store_after : ℕ → Line → Run → List ℕ
+store_after limit line b = cycle_store (input_of limit line.op line.price) (requested_state b.state line.want) b.store
+
+unfoldable pub entries_after : ℕ → Line → Run → List ℕ
+entries_after limit line b =
+    cond (is_ok (cycle_in limit line b).answer)
+    (tally_after b.tally limit b.state.depth (cycle_in limit line b).state.depth (cycle_charge (cycle_in limit line b).answer))
+    b.tally
+
+abbrev pub run_after : ℕ → Line → Run → Run
+run_after limit line b = record {
+  state = (ran_of limit line b).state;
+  store = store_after limit line b;
+  tally = entries_after limit line b;
+}
+
+-- "cycle number, op read, charge, depth after, ergs of the current frame, ergs of all frames, its tally"
+unfoldable pub printed_row : ℕ → Op → ℕ → Run → Row
+printed_row cycle op charge b = record {
+  total = b.state.current.ergs_remaining + saved_ergs b.state.depth b.store;
+  own = get_or b.tally b.state.depth 0;
+  cycle = cycle;
+  charge = charge;
+  depth = b.state.depth;
+  held = b.state.current.ergs_remaining;
+  op = op;
+}

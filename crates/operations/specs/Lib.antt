@@ -1,0 +1,4 @@
+pub mod NearCall
+pub mod Ret
+pub mod Arithmetic
+pub mod Time

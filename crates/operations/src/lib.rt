@@ -1,0 +1,7 @@
+// What the operations of execute do, without the machine state: near call, return, add, sub, and the time after a cycle.
+#![tactic(auto)]
+
+pub mod arithmetic;
+pub mod near_call;
+pub mod ret;
+pub mod time;

@@ -1,0 +1,39 @@
+-- Instruction records. Document 01: "Operation (0 nop, 1 add, 2 sub, 3 near call, 4 return, 5 other); return kind (0 ok, 1 revert, 2 panic); condition 0 to 7
+-- in the order of the Rust's `match`; source and destination kind (0 register, 1 immediate, 2 push/pop, 3 stack offset, 4 code page, 5 absolute stack); registers src0, src1, dst0".
+use Rattle.std.specs.Prelude.{Bool, not, ◌&&◌, ◌||◌, ◌==◌, nat_le}
+use Rattle.records.specs.declared.Record.{Record}
+use Rattle.records.specs.declared.Records.{Records}
+
+-- ---- not refused by 3: "a field outside its list, register above 15, destination kind 1 or 4"
+-- the kinds of source and destination
+abbrev pub good_kinds : Record → Bool
+good_kinds r =
+    nat_le r.source_kind 5
+    && nat_le r.destination_kind 5
+    && not (r.destination_kind == 1)
+    && not (r.destination_kind == 4)
+
+abbrev pub good_registers : Record → Bool
+good_registers r = nat_le r.src0 15 && nat_le r.src1 15 && nat_le r.dst0 15
+
+abbrev pub good_record : Record → Bool
+good_record r = nat_le r.operation 5 && nat_le r.return_kind 2 && nat_le r.condition 7 && good_kinds r && good_registers r
+
+-- a panic return
+abbrev pub is_panic : Record → Bool
+is_panic r = r.operation == 4 && r.return_kind == 2
+
+abbrev pub is_nop : Record → Bool
+is_nop r = r.operation == 0
+
+-- refusal 3 of decode: a record that is not good, "panic record not a panic return, nop record not a nop; ended and plain record not a nop on which decode sets
+-- no flag; exception and plain record not a panic return"
+unfoldable pub bad_records : Records → Bool → Bool → Bool → Bool
+bad_records r ended pending flagged =
+    not (good_record r.plain)
+    || not (good_record r.panic)
+    || not (good_record r.nop)
+    || not (is_panic r.panic)
+    || not (is_nop r.nop)
+    || ended && not (is_nop r.plain && not flagged)
+    || pending && not (is_panic r.plain)

@@ -1,0 +1,53 @@
+// Instruction records, settings and flags, and the checks of them that stages share.
+#![tactic(auto)]
+
+pub mod checks;
+pub mod kinds;
+pub mod sizes;
+
+// Made by the caller, read by every stage.
+#[derive(Clone, Copy)]
+pub struct Settings {
+    pub depth_limit: u32,
+    pub near_call_multiplier: u32,
+    pub time_step: u32,
+}
+
+// An instruction. Kinds and registers are numbers, so that a record can be refused; the order leaves no hole.
+#[derive(Clone, Copy, Default)]
+pub struct Record {
+    pub operation: u8,
+    pub return_kind: u8,
+    pub condition: u8,
+    pub source_kind: u8,
+    pub destination_kind: u8,
+    pub src0: u8,
+    pub src1: u8,
+    pub dst0: u8,
+    pub imm_0: u16,
+    pub imm_1: u16,
+    pub price: u32,
+    pub explicit_panic: bool,
+    pub kernel_only: bool,
+    pub allowed_when_static: bool,
+    pub swap: bool,
+    pub set_flags: bool,
+    pub to_label: bool,
+    pub src0_may_be_pointer: bool,
+    pub src1_may_be_pointer: bool,
+}
+
+// The three that come together: the instruction as it stands, masked into panic, and masked into nop.
+#[derive(Clone, Copy, Default)]
+pub struct Records {
+    pub plain: Record,
+    pub panic: Record,
+    pub nop: Record,
+}
+
+#[derive(Clone, Copy, Default)]
+pub struct Flags {
+    pub overflow_or_less_than_flag: bool,
+    pub equality_flag: bool,
+    pub greater_than_flag: bool,
+}

@@ -1,4 +1,0 @@
-pub mod AddressLaws
-pub mod RecordLaws
-pub mod RefusalLaws
-pub mod ChargeLaws

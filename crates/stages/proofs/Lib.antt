@@ -1,0 +1,5 @@
+pub mod CheckLaws
+pub mod OperandsLaws
+pub mod NearCallLaws
+pub mod AnswerLaws
+pub mod ExecuteLaws

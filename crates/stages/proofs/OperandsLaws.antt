@@ -1,0 +1,46 @@
+-- The stack page that operands looks at, and what it tells of the places. Assumes nothing.
+use Rattle.std.proofs.Common.{◌≡◌, ℕ, ◌+◌, ◌%◌, ◌^◌, List, [], ◌∷◌, Bool, true, false, cond, ◌||◌, not, refl, arith, mod-eq_of_lt}
+use Rattle.std.specs.Prelude.{Err}
+use Rattle.records.specs.declared.Settings.{Settings}
+use Rattle.records.specs.Record.{good_record}
+use Rattle.refusal.specs.declared.Refusal.{Refusal}
+use Rattle.refusal.specs.Refusal.{paper_number, refusal_number}
+use Rattle.u256.specs.declared.U256.{U256}
+use Rattle.records.specs.declared.Record.{Record}
+use Rattle.addressing.specs.Address.{lacks_stack_page, source_at, destination_at, places_of}
+use Rattle.addressing.proofs.AddressLaws.{places_page}
+use Rattle.stages.specs.declared.State.{State}
+use Rattle.stages.specs.declared.Staged.{Staged}
+use Rattle.stages.specs.declared.OperandsAnswer.{OperandsAnswer}
+use Rattle.stages.specs.State.{decoded, bad_store, out_of_turn}
+use Rattle.stages.specs.Operands.{record_of, places_in, operands_checks, operands_refusal, operands_done, operands_of}
+use Rattle.stages.specs.Answers.{location_case, operands_case}
+use Rattle.stages.specs.Tells.{source_tells, destination_tells, operands_tells}
+use Rattle.stages.proofs.CheckLaws.{refused_first}
+
+-- a stack page that is looked at has 32 bits
+pub places_exact : (w : ℕ) (r : Record) (registers : List U256) (base code_page sp : ℕ) → lacks_stack_page r base ≡ false
+    → places_of w r registers ((base + 1) % 2 ^ 32) code_page sp ≡ places_of w r registers (base + 1) code_page sp
+places_exact w r registers base code_page sp h = places_page w r registers _ _ code_page sp (λ k. grind (arith, mod-eq_of_lt))
+
+pub places_told : (w : ℕ) (s : State)
+    → location_case (places_in w s).source ∷ location_case (places_in w s).destination ∷ [] ≡ source_tells w s ∷ destination_tells w s ∷ []
+unfolding places_of source_at destination_at
+places_told w s = grind arith
+
+-- some check holds, and q is the refusal of the first
+pub refused : (settings : Settings) (s : State) (store : List ℕ) (sizes : Bool) → sizes ≡ bad_store settings s store
+    → (turn : Bool) → turn ≡ out_of_turn decoded s → (good : Bool) → good ≡ good_record (record_of s) → (lacking : Bool) → lacking ≡ lacks_stack_page (record_of s) s.current.base_memory_page
+    → (sizes || turn || not good || lacking) ≡ true
+    → (q : Refusal) → q ≡ cond sizes Refusal.Sizes (cond turn Refusal.Turn (cond (not good) Refusal.Record Refusal.Above32Bits))
+    → (r : Staged OperandsAnswer) → r ≡ record { state = s; answer = Err q }
+    → (r ≡ operands_of settings s store) × (refusal_number r.answer ≡ operands_refusal settings s store) × (operands_case r.answer ≡ operands_tells settings s store)
+unfolding operands_of
+refused settings s store sizes ez turn eu good eg lacking el t q eq r er =
+    let k = refused_first s (operands_done 16 s) (operands_checks settings s store) tt (rw (← ez, ← eu, ← eg, ← el) t) q
+    (rw (eq, ← ez, ← eu, ← eg) (number sizes turn (not good))) in
+    rw er (k.0, k.1, rw k.2 refl)
+  where
+    number : (a b c : Bool)
+        → paper_number (cond a Refusal.Sizes (cond b Refusal.Turn (cond c Refusal.Record Refusal.Above32Bits))) ≡ cond a 1 (cond b 2 (cond c 3 14))
+    number a b c = grind arith

@@ -1,0 +1,119 @@
+-- What execute changes of the state.
+use Rattle.std.specs.Prelude.{ℕ, false}
+use Rattle.u256.specs.declared.U256.{U256}
+use Rattle.frame.specs.declared.Frame.{Frame}
+use Rattle.frame.specs.declared.PubdataCost.{PubdataCost}
+use Rattle.frame.specs.Fields.{with_pc}
+use Rattle.registers.specs.Registers.{empty_word, update_of}
+use Rattle.records.specs.declared.Record.{Record}
+use Rattle.records.specs.declared.Flags.{Flags}
+use Rattle.addressing.specs.declared.Location.{Location}
+use Rattle.stages.specs.declared.State.{State}
+use Rattle.stages.specs.State.{ready}
+
+-- "the record all 0"
+abbrev pub no_record : Record
+no_record = record {
+  operation = 0;
+  return_kind = 0;
+  condition = 0;
+  source_kind = 0;
+  destination_kind = 0;
+  src0 = 0;
+  src1 = 0;
+  dst0 = 0;
+  imm_0 = 0;
+  imm_1 = 0;
+  price = 0;
+  explicit_panic = false;
+  kernel_only = false;
+  allowed_when_static = false;
+  swap = false;
+  set_flags = false;
+  to_label = false;
+  src0_may_be_pointer = false;
+  src1_may_be_pointer = false;
+}
+
+abbrev pub no_flags : Flags
+no_flags = record { overflow_or_less_than_flag = false; equality_flag = false; greater_than_flag = false }
+
+-- "after execute it is ready, the record all 0, the location none"
+unfoldable pub finished_state : State → ℕ → ℕ → State
+finished_state s time counter = record {
+  registers = s.registers;
+  current = s.current;
+  previous_code_word = s.previous_code_word;
+  fetched_word = s.fetched_word;
+  kept = record { instruction = no_record; write = Location.None };
+  flags = s.flags;
+  previous_code_memory_page = s.previous_code_memory_page;
+  timestamp = time;
+  monotonic_cycle_counter = counter;
+  depth = s.depth;
+  pubdata_revert_counter = s.pubdata_revert_counter;
+  previous_super_pc = s.previous_super_pc;
+  pointers = s.pointers;
+  stage = ready;
+  pending_exception = s.pending_exception;
+}
+
+-- pc alone
+unfoldable pub moved_state : State → ℕ → State
+moved_state s pc = record {
+  registers = s.registers;
+  current = with_pc s.current pc;
+  previous_code_word = s.previous_code_word;
+  fetched_word = s.fetched_word;
+  kept = s.kept;
+  flags = s.flags;
+  previous_code_memory_page = s.previous_code_memory_page;
+  timestamp = s.timestamp;
+  monotonic_cycle_counter = s.monotonic_cycle_counter;
+  depth = s.depth;
+  pubdata_revert_counter = s.pubdata_revert_counter;
+  previous_super_pc = s.previous_super_pc;
+  pointers = s.pointers;
+  stage = s.stage;
+  pending_exception = s.pending_exception;
+}
+
+-- a register, and the flags
+unfoldable pub written_state : State → Flags → ℕ → U256 → State
+written_state s flags n word = record {
+  registers = update_of empty_word s.registers n word;
+  current = s.current;
+  previous_code_word = s.previous_code_word;
+  fetched_word = s.fetched_word;
+  kept = s.kept;
+  flags = flags;
+  previous_code_memory_page = s.previous_code_memory_page;
+  timestamp = s.timestamp;
+  monotonic_cycle_counter = s.monotonic_cycle_counter;
+  depth = s.depth;
+  pubdata_revert_counter = s.pubdata_revert_counter;
+  previous_super_pc = s.previous_super_pc;
+  pointers = update_of false s.pointers n false;
+  stage = s.stage;
+  pending_exception = s.pending_exception;
+}
+
+-- a frame opened or closed: the frame that is current then, the depth, the flags and the revert counter
+unfoldable pub switched_state : State → Frame → ℕ → Flags → PubdataCost → State
+switched_state s f depth flags counter = record {
+  registers = s.registers;
+  current = f;
+  previous_code_word = s.previous_code_word;
+  fetched_word = s.fetched_word;
+  kept = s.kept;
+  flags = flags;
+  previous_code_memory_page = s.previous_code_memory_page;
+  timestamp = s.timestamp;
+  monotonic_cycle_counter = s.monotonic_cycle_counter;
+  depth = depth;
+  pubdata_revert_counter = counter;
+  previous_super_pc = s.previous_super_pc;
+  pointers = s.pointers;
+  stage = s.stage;
+  pending_exception = s.pending_exception;
+}

@@ -1,0 +1,45 @@
+-- The machine state. Document 01: "the stage reached (ready, fetched, decoded, operands)", "execution has ended exactly at depth 0".
+use Rattle.std.specs.Prelude.{ℕ, Bool, cond, not, List, length, Err, ◌==◌}
+use Rattle.refusal.specs.Refusal.{numbered_refusal}
+use Rattle.records.specs.declared.Settings.{Settings}
+use Rattle.records.specs.Sizes.{bad_sizes}
+use Rattle.stages.specs.declared.Stage.{Stage}
+use Rattle.stages.specs.declared.State.{State}
+use Rattle.stages.specs.declared.Staged.{Staged}
+
+-- the numbers of the stages reached, and of the stage that comes next then
+abbrev pub ready : ℕ
+ready = 0
+
+abbrev pub fetched : ℕ
+fetched = 1
+
+abbrev pub decoded : ℕ
+decoded = 2
+
+abbrev pub addressed : ℕ
+addressed = 3
+
+abbrev pub stage_number : Stage → ℕ
+stage_number Stage.Fetch = ready
+stage_number Stage.Decode = fetched
+stage_number Stage.Operands = decoded
+stage_number Stage.Execute = addressed
+
+abbrev pub is_ended : State → Bool
+is_ended s = s.depth == 0
+
+-- the checks of refusals 1 and 2, of every stage
+abbrev pub bad_store : Settings → State → List ℕ → Bool
+bad_store settings s store = bad_sizes settings.depth_limit s.depth (length store)
+
+abbrev pub out_of_turn : ℕ → State → Bool
+out_of_turn stage s = not (s.stage == stage)
+
+-- a refusal: the state as it was given
+abbrev pub refused_with : {A : Type 0} → State → ℕ → Staged A
+refused_with s n = record { state = s; answer = Err (numbered_refusal n) }
+
+-- 0 is no refusal
+abbrev pub settled : {A : Type 0} → ℕ → (ℕ → A) → A → A
+settled n refused done = cond (n == 0) done (refused n)

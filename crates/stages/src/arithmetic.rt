@@ -1,0 +1,55 @@
+// Add and sub, after the Rust's `add.rs`, `sub.rs` and `perform_dst0_update`.
+ghost use Rattle.std.specs.Prelude.{◌≡◌, ◌+◌, ◌^◌, ◌&&◌, nat_le, if◌then◌else◌};
+ghost use Rattle.stages.specs.Arithmetic.{arithmetic_of};
+
+use crate::{ExecuteAnswer, Executed, Staged, State, helpers};
+use addressing::PrimitiveValue;
+use operations::{arithmetic, time};
+use records::Settings;
+use refusal::Refusal;
+use u256::U256;
+
+// Refusal 14 for the time of a memory write.
+fn is_late_write(stored: bool, time: u32) -> bool
+    ensures { result ≡ (stored && nat_le (2 ^ 32) (time + 3)) }
+{
+    stored & time.checked_add(3).is_none()
+}
+
+// No register where the result goes to memory.
+fn register(stored: bool, n: u8) -> u8
+    ensures { result ≡ (if stored then 0 else n) }
+{
+    if stored { 0 } else { n }
+}
+
+impl State {
+    #[tactic(auto, unfolding(crate::specs::Arithmetic::arithmetic_of, crate::specs::Arithmetic::arithmetic_done))]
+    pub(crate) fn arithmetic(self, settings: Settings, a: U256, b: U256) -> Executed
+        ensures { result ≡ arithmetic_of settings a b self }
+    {
+        let kept = self.kept;
+        let instruction = kept.instruction;
+        let location = kept.write;
+        let stored = helpers::is_stored(location);
+        if self.is_late(settings) | is_late_write(stored, self.timestamp) {
+            return self.refused(Refusal::Above32Bits);
+        }
+        let result = arithmetic::result(instruction.operation, a, b);
+        let word = result.0;
+        let old = self.flags;
+        let flags = arithmetic::flags_after(instruction.set_flags, old, result);
+        let pc = time::next_pc(self.current.pc, self.is_ended());
+        let value = PrimitiveValue {
+            value: word,
+            is_pointer: false,
+        };
+        let write = helpers::write_of(location, self.timestamp, value);
+        let moved = self.finish(settings).moved(pc);
+        let next = moved.written(flags, register(stored, instruction.dst0), word);
+        Staged {
+            state: next,
+            answer: Ok(ExecuteAnswer { write, event: None }),
+        }
+    }
+}

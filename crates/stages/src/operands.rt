@@ -1,0 +1,73 @@
+// Operands, from the Rust's `compute_addresses_and_select_operands`.
+ghost use Rattle.std.specs.Prelude.{◌≡◌};
+ghost use Rattle.stages.specs.Operands.{addressed_state, operands_refusal, operands_of};
+ghost use Rattle.refusal.specs.Refusal.{refusal_number};
+ghost use Rattle.stages.specs.Answers.{operands_case};
+ghost use Rattle.stages.specs.Tells.{operands_tells};
+
+use crate::{Addressed, Kept, OperandsAnswer, Stage, Staged, State};
+use addressing::{Location, mem_ops};
+use records::{Settings, checks};
+use refusal::Refusal;
+
+impl State {
+    #[tactic(auto, unfolding(crate::specs::Operands::addressed_state, frame::specs::Fields::with_sp))]
+    fn addressed(self, sp: u16, write: Location) -> State
+        ensures { result ≡ addressed_state self sp write }
+    {
+        let old = self.kept;
+        let instruction = old.instruction;
+        let kept = Kept { instruction, write };
+        let mut next = self.apart();
+        next.current.sp = sp;
+        next.kept = kept;
+        next.stage = Stage::Execute as u8;
+        next
+    }
+
+    #[tactic(auto, using(crate::proofs::OperandsLaws::places_exact, crate::proofs::OperandsLaws::places_told), unfolding(crate::specs::Operands::operands_of, crate::specs::Operands::operands_done))]
+    pub fn operands(self, settings: Settings, store: &[u32]) -> Addressed
+        ensures { (result ≡ operands_of settings self store.now)
+            × (refusal_number result.answer ≡ operands_refusal settings self store.now)
+            × (operands_case result.answer ≡ operands_tells settings self store.now) }
+    {
+        let kept = self.kept;
+        let instruction = kept.instruction;
+        let base = self.current.base_memory_page;
+        let sizes = self.has_bad_store(settings, store);
+        let bad = !checks::good_record(instruction);
+        let lacking = mem_ops::lacks_stack_page(instruction, base);
+        let turn = self.is_out_of_turn(Stage::Operands);
+        // One branch, and the list inside it (D62), as in decode.
+        if sizes | turn | bad | lacking {
+            let refusal = refusal::first_after(
+                &[
+                    (sizes, Refusal::Sizes),
+                    (turn, Refusal::Turn),
+                    (bad, Refusal::Record),
+                ],
+                Refusal::Above32Bits,
+            );
+            return self.refused(refusal);
+        }
+        let registers = self.registers;
+        let page = base.wrapping_add(1);
+        let places = mem_ops::places(
+            instruction,
+            registers,
+            page,
+            self.current.code_page,
+            self.current.sp,
+        );
+        let source = places.source;
+        let destination = places.destination;
+        let next = self.addressed(places.sp, destination);
+        Staged {
+            state: next,
+            answer: Ok(OperandsAnswer {
+                source,
+                destination,
+            }),
+        }
+    }
+}

@@ -1,0 +1,108 @@
+// States and records that are 0 or no but for what is given, depth 1, time step 4 and the masked records' operations: where a listing starts, and the edges.
+#![tactic(auto)]
+
+ghost use Rattle.std.specs.Prelude.{◌≡◌, false};
+ghost use Rattle.start.specs.Start as start;
+
+use addressing::Location;
+use frame::{Frame, PubdataCost};
+use records::kinds::{Operation, ReturnKind};
+use records::{Flags, Record, Records, Settings};
+use stages::{Kept, Stage, State};
+
+pub fn far_frame(ergs: u32, sp: u16) -> Frame
+    ensures { result ≡ start.far_frame ergs sp }
+{
+    Frame {
+        ergs_remaining: ergs,
+        sp,
+        ..Frame::default()
+    }
+}
+
+// A record with these fields; the others are 0 or no. The kinds are numbers as in the record, so that one that is refused can be made too.
+pub fn instruction(
+    operation: u8,
+    return_kind: u8,
+    source_kind: u8,
+    destination_kind: u8,
+    src0: u8,
+    src1: u8,
+    dst0: u8,
+    imm_0: u16,
+    imm_1: u16,
+    price: u32,
+    set_flags: bool,
+) -> Record
+    ensures { result ≡ start.instruction operation return_kind source_kind destination_kind src0 src1 dst0 imm_0 imm_1 price set_flags }
+{
+    Record {
+        operation,
+        return_kind,
+        source_kind,
+        destination_kind,
+        src0,
+        src1,
+        dst0,
+        imm_0,
+        imm_1,
+        price,
+        set_flags,
+        ..Record::default()
+    }
+}
+
+// The plain record with the two that it may be masked into.
+pub fn records_of(plain: Record) -> Records
+    ensures { result ≡ start.records_of plain }
+{
+    let panic = Record {
+        operation: Operation::Ret as u8,
+        return_kind: ReturnKind::Panic as u8,
+        ..Record::default()
+    };
+    Records {
+        plain,
+        panic,
+        nop: Record::default(),
+    }
+}
+
+pub fn settings_of(limit: u32, multiplier: u32) -> Settings
+    ensures { result ≡ start.settings_of limit multiplier }
+{
+    Settings {
+        depth_limit: limit,
+        near_call_multiplier: multiplier,
+        time_step: 4,
+    }
+}
+
+// Depth 1, in a far frame.
+pub fn start_state(ergs: u32, sp: u16) -> State
+    ensures { result ≡ start.start_state ergs sp }
+{
+    let none = registers::empty_word();
+    let current = far_frame(ergs, sp);
+    let kept = Kept {
+        instruction: Record::default(),
+        write: Location::None,
+    };
+    State {
+        registers: [none; 15],
+        current,
+        previous_code_word: none,
+        fetched_word: None,
+        kept,
+        flags: Flags::default(),
+        previous_code_memory_page: 0,
+        timestamp: 0,
+        monotonic_cycle_counter: 0,
+        depth: 1,
+        pubdata_revert_counter: PubdataCost::default(),
+        previous_super_pc: 0,
+        pointers: [false; 15],
+        stage: Stage::Fetch as u8,
+        pending_exception: false,
+    }
+}
