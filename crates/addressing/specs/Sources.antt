@@ -2,8 +2,8 @@
 -- source is the empty value"; refusal 6, "after the swap, pointer in a place that may not hold one, not kernel".
 use Rattle.std.specs.Prelude.{ℕ, Bool, false, cond, not, ◌&&◌, ◌||◌, List, ◌==◌}
 use Rattle.u256.specs.declared.U256.{U256}
-use Rattle.u256.specs.U256.{one_word}
-use Rattle.registers.specs.Registers.{empty_word, register_of, pointer_of}
+use Rattle.u256.specs.U256.{empty_word, one_word}
+use Rattle.registers.specs.Registers.{register_of, pointer_of}
 use Rattle.records.specs.declared.Record.{Record}
 use Rattle.addressing.specs.declared.PrimitiveValue.{PrimitiveValue}
 use Rattle.addressing.specs.declared.Sources.{Sources}

@@ -18,7 +18,7 @@ fn first_source(r: Record, register: PrimitiveValue, read: PrimitiveValue) -> Pr
             is_pointer: false,
         },
         _ if checks::is_nop(r) => PrimitiveValue {
-            value: registers::empty_word(),
+            value: u256::empty_word(),
             is_pointer: false,
         },
         _ => read,

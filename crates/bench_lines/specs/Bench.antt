@@ -21,13 +21,13 @@ pub record Bench : Type 0 where
   pub store : List ℕ
 
 -- what a cycle is given: the input, and the state that it begins from
-pub record Given : Type 0 where
+pub record CycleGiven : Type 0 where
   pub input : Input
   pub state : State
 
 -- a benchmark's step: what the cycle of a line is given, from a state and the store
 abbrev pub Step : Type 0 → Type 0
-Step T = List T → State → List ℕ → Given
+Step T = List T → State → List ℕ → CycleGiven
 
 -- depth 1 in a far frame with these ergs, at the first line
 abbrev pub start_progress : ℕ → Progress

@@ -4,7 +4,7 @@
 ghost use Rattle.std.specs.Prelude.{◌≡◌, ℕ, ◌+◌, ◌≤◌, List, length};
 ghost use Rattle.stages.specs.declared.State.{State};
 ghost use Rattle.cycle.specs.Cycle.{cycle_of, cycle_store};
-ghost use Rattle.bench_lines.specs.Bench.{Given, start_progress, cycles_of, next_line, line_at, cycle_outcome, refused_number, flags_number, end_of, run_of};
+ghost use Rattle.bench_lines.specs.Bench.{CycleGiven, start_progress, cycles_of, next_line, line_at, cycle_outcome, refused_number, flags_number, end_of, run_of};
 
 mod line;
 
@@ -48,7 +48,7 @@ pub struct Progress {
 
 // A benchmark's step: the one cycle of a line of so many words.
 pub trait Benchmark<T, const WIDTH: usize> {
-    ghost given: { Self → List T → State → List ℕ → Given };
+    ghost given: { Self → List T → State → List ℕ → CycleGiven };
 
     fn step(&self, state: State, line: &[T; WIDTH], store: &mut [u32]) -> CycleOutcome
         ensures outcome { let g = given self.now line.now state store.old in result ≡ cycle_outcome (cycle_of g.input g.state store.old) }

@@ -5,7 +5,7 @@ use Rattle.stages.specs.declared.State.{State}
 use Rattle.cycle.specs.declared.Input.{Input}
 use Rattle.start.specs.Start.{settings_of}
 use Rattle.line_cycle.specs.LineCycle.{requested_state}
-use Rattle.bench_lines.specs.Bench.{Bench, Given, run_of}
+use Rattle.bench_lines.specs.Bench.{Bench, CycleGiven, run_of}
 use Rattle.bench_lines.specs.Line.{line_width, line_records, want_of, word_at}
 
 -- the input of a line's cycle
@@ -13,7 +13,7 @@ unfoldable pub opaque_input : List ℕ → U256 → U256 → ℕ → Input
 opaque_input line code source limit = record { code = code; source = source; settings = settings_of limit 1; records = line_records line; pointer = false }
 
 -- what a line's cycle is given, with its want in register 1
-unfoldable pub opaque_step : U256 → U256 → ℕ → List ℕ → State → List ℕ → Given
+unfoldable pub opaque_step : U256 → U256 → ℕ → List ℕ → State → List ℕ → CycleGiven
 opaque_step code source limit line s store = record { input = opaque_input line code source limit; state = requested_state s (want_of line) }
 
 abbrev pub opaque_run : List ℕ → List ℕ → List ℕ → ℕ → ℕ → ℕ → List ℕ → Bench

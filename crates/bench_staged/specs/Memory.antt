@@ -2,7 +2,7 @@
 use Rattle.std.specs.Prelude.{ℕ, ◌*◌, ◌/◌, ◌%◌, cond, List, Result, Ok, Err, leb, length}
 use Rattle.refusal.specs.declared.Refusal.{Refusal}
 use Rattle.u256.specs.declared.U256.{U256}
-use Rattle.registers.specs.Registers.{empty_word}
+use Rattle.u256.specs.U256.{empty_word}
 use Rattle.addressing.specs.declared.Location.{Location}
 use Rattle.stages.specs.declared.OperandsAnswer.{OperandsAnswer}
 use Rattle.bench_lines.specs.Line.{word_at}
@@ -12,9 +12,9 @@ abbrev pub word_indexed : List ℕ → ℕ → U256
 word_indexed words index = cond (leb 4 (length words)) (word_at words (index % (length words / 4) * 4)) empty_word
 
 -- the word at a location, the empty word where there is none
-abbrev pub word_read : List ℕ → Location → U256
-word_read words Location.None = empty_word
-word_read words (Location.At kind page index) = word_indexed words index
+abbrev pub memory_word : List ℕ → Location → U256
+memory_word words Location.None = empty_word
+memory_word words (Location.At kind page index) = word_indexed words index
 
 -- the source location that operands tells
 abbrev pub source_told : Result OperandsAnswer Refusal → Location

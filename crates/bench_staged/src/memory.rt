@@ -1,6 +1,6 @@
 // The memory that answers the code query and the source location: four words of 64 bits make one word.
 ghost use Rattle.std.specs.Prelude.{◌≡◌};
-ghost use Rattle.bench_staged.specs.Memory.{word_indexed, word_read};
+ghost use Rattle.bench_staged.specs.Memory.{word_indexed, memory_word};
 
 use addressing::Location;
 use u256::U256;
@@ -11,17 +11,17 @@ fn word_indexed(words: &[u64], index: u32) -> U256
 {
     let (places, _) = words.as_chunks::<4>();
     if places.is_empty() {
-        registers::empty_word()
+        u256::empty_word()
     } else {
         bench_lines::word_of(&places[index as usize % places.len()])
     }
 }
 
 pub fn read(words: &[u64], location: Location) -> U256
-    ensures { result ≡ word_read words.now location }
+    ensures { result ≡ memory_word words.now location }
 {
     match location {
-        Location::None => registers::empty_word(),
+        Location::None => u256::empty_word(),
         Location::At { index, .. } => word_indexed(words, index),
     }
 }

@@ -3,7 +3,7 @@ use mathlib.Core.Path.{refl}
 use Rattle.frame.specs.Fields.{with_ergs, with_sp, with_pc}
 use Rattle.frame.specs.Kernel.{kernel_mode}
 use Rattle.frame.specs.Store.{saved_store}
-use Rattle.u256.specs.U256.{sum_of, difference_of, is_zero, low_of}
+use Rattle.u256.specs.U256.{overflowing_sum, overflowing_difference, is_zero, low_of}
 use Rattle.records.specs.Record.{bad_records}
 use Rattle.decoding.specs.Charge.{error_flags}
 use Rattle.addressing.specs.Address.{source_at, destination_at, places_of}
@@ -23,6 +23,6 @@ use Rattle.stages.specs.Execute.{execute_done, execute_of, execute_store}
 use Rattle.claims.specs.Edges.{edges, AllHold}
 
 pub edges_hold : AllHold edges
-unfolding with_ergs with_sp with_pc kernel_mode saved_store sum_of difference_of is_zero low_of bad_records error_flags source_at destination_at places_of sources_of caller_of opened_of flags_after finished_state moved_state written_state switched_state query_of code_bits fetched_state fetch_done fetch_of decoded_state decode_done decode_of addressed_state operands_done operands_of nop_done nop_of near_call_done near_call_of near_call_store arithmetic_done arithmetic_of return_of execute_done execute_of execute_store
+unfolding with_ergs with_sp with_pc kernel_mode saved_store overflowing_sum overflowing_difference is_zero low_of bad_records error_flags source_at destination_at places_of sources_of caller_of opened_of flags_after finished_state moved_state written_state switched_state query_of code_bits fetched_state fetch_done fetch_of decoded_state decode_done decode_of addressed_state operands_done operands_of nop_done nop_of near_call_done near_call_of near_call_store arithmetic_done arithmetic_of return_of execute_done execute_of execute_store
 edges_hold =
     (refl, (refl, (refl, (refl, (refl, (refl, (refl, (refl, (refl, (refl, (refl, (refl, (refl, (refl, tt))))))))))))))

@@ -9,14 +9,13 @@ use mathlib.Core.Option.{none}
 use native.Mathlib.Omega.{arith}
 use native.Mathlib.Nat.{lt_irrefl}
 use lib.ListN.{take, drop}
-use Rattle.u256.specs.U256.{low_of}
+use Rattle.u256.specs.U256.{empty_word, low_of}
 use Rattle.frame.specs.Fields.{with_ergs, with_sp, with_pc}
 use Rattle.frame.specs.Kernel.{kernel_mode}
 use Rattle.frame.specs.Row.{row_of, frame_of}
 use Rattle.frame.specs.Store.{saved_store, read_of, saved_ergs}
-use Rattle.registers.specs.Registers.{empty_word}
 use Rattle.signed.specs.Signed.{checked_of, word_of, signed_of}
-use Rattle.u256.specs.U256.{one_word, sum_of, difference_of, is_zero}
+use Rattle.u256.specs.U256.{one_word, overflowing_sum, overflowing_difference, is_zero}
 use Rattle.decoding.specs.Code.{code_bits}
 use Rattle.records.specs.Record.{bad_records}
 use Rattle.decoding.specs.Charge.{error_flags}
@@ -36,7 +35,7 @@ use Rattle.stages.specs.Arithmetic.{arithmetic_done, arithmetic_of}
 use Rattle.stages.specs.Ret.{close_done, close_of, return_of}
 use Rattle.stages.specs.Execute.{execute_done, execute_of, execute_store}
 use Rattle.lists.specs.Machine.{Outcome, near_call, charge_of}
-use Rattle.lists.specs.Lists.{Call, fetch, decode, operands, execute, Event, called, trace, finished_of, Cycle, events_of, charge, charges, operation, opened, closed, sum, before, result, outcome_of, InTurn}
+use Rattle.lists.specs.Lists.{Call, fetch, decode, operands, execute, Called, called, trace, finished_of, Cycle, events_of, charge, charges, operation, opened, closed, sum, before, result, outcome_of, InTurn}
 use Rattle.lists.specs.Claims.{ClosesWithLast, CallerResumes, span}
 use Rattle.lists.proofs.Resume.{callers_resume}
 use Rattle.claims.specs.Core.{lasting_of, core, execute_outcome}
@@ -47,7 +46,7 @@ use Rattle.start.specs.Start.{instruction, records_of, start_state, settings_of,
 abbrev pub line : ℕ → ℕ → ℕ → ℕ → List (Call core)
 line operation kind price want =
     fetch (record { settings = settings_of 4 1; word = empty_word })
-    ∷ decode (record { settings = settings_of 4 1; records = records_of (instruction operation kind 4 0 0 0 0 0 0 price false) })
+    ∷ decode (record { settings = settings_of 4 1; records = records_of (instruction operation kind 4 0 price) })
     ∷ operands (settings_of 0 1)
     ∷ operands (settings_of 4 1)
     ∷ fetch (record { settings = settings_of 4 1; word = one_word 7 })
@@ -61,7 +60,7 @@ abbrev pub start : State
 start = start_state 1000 0
 
 -- of a finished decode the charge; of a finished execute the depth, the ergs of the frame that is current then, and those of all frames
-abbrev pub figure : Event core → List ℕ
+abbrev pub figure : Called core → List ℕ
 figure (called (fetch x) s store) = []
 figure (called (decode x) s store) = charge_of core x s ∷ []
 figure (called (operands x) s store) = []
@@ -78,11 +77,11 @@ pub figures : joined (map figure (finished_of core (trace core listing start (em
     ≡ (6 ∷ 1 ∷ 994 ∷ 994 ∷ [])
     ++ ((25 ∷ 2 ∷ 300 ∷ 969 ∷ [])
     ++ ((6 ∷ 2 ∷ 294 ∷ 963 ∷ []) ++ ((5 ∷ 1 ∷ 958 ∷ 958 ∷ []) ++ ((25 ∷ 2 ∷ 933 ∷ 933 ∷ []) ++ (5 ∷ 1 ∷ 928 ∷ 928 ∷ [])))))
-unfolding finished_of trace charge_of with_ergs with_sp with_pc kernel_mode read_of low_of checked_of word_of signed_of sum_of difference_of is_zero code_bits bad_records error_flags source_at destination_at places_of sources_of caller_of opened_of resumed_with resumed_of saved_store flags_after finished_state moved_state written_state switched_state fetched_state fetch_done fetch_of decoded_state decode_done decode_of addressed_state operands_done operands_of nop_done nop_of near_call_done near_call_of near_call_store arithmetic_done arithmetic_of close_done close_of return_of execute_done execute_of execute_store
+unfolding finished_of trace charge_of with_ergs with_sp with_pc kernel_mode read_of low_of checked_of word_of signed_of overflowing_sum overflowing_difference is_zero code_bits bad_records error_flags source_at destination_at places_of sources_of caller_of opened_of resumed_with resumed_of saved_store flags_after finished_state moved_state written_state switched_state fetched_state fetch_done fetch_of decoded_state decode_done decode_of addressed_state operands_done operands_of nop_done nop_of near_call_done near_call_of near_call_store arithmetic_done arithmetic_of close_done close_of return_of execute_done execute_of execute_store
 figures = refl
 
 -- ---- the first near call, from its own cycle to the one that closes its frame: the premises of the claim hold, and so does what it says
-abbrev events : List (Event core)
+abbrev events : List (Called core)
 events = finished_of core (trace core listing start (empty_store 4))
 
 -- what calls from the start lead to
@@ -95,7 +94,7 @@ abbrev pub cycle_of : List (Call core) → ℕ → ℕ → ℕ → ℕ → Cycle
 cycle_of earlier operation kind price want = record {
   fetch = record { input = record { settings = settings_of 4 1; word = empty_word }; state = (at 0).state; store = (at 0).store };
   decode = record {
-    input = record { settings = settings_of 4 1; records = records_of (instruction operation kind 4 0 0 0 0 0 0 price false) };
+    input = record { settings = settings_of 4 1; records = records_of (instruction operation kind 4 0 price) };
     state = (at 1).state;
     store = (at 1).store;
   };
@@ -119,15 +118,15 @@ abbrev pub calling : List (Cycle core)
 calling = span core call (add ∷ []) close
 
 in_turn : InTurn core listing start (empty_store 4) calling
-unfolding events_of finished_of trace charge_of with_ergs with_sp with_pc kernel_mode read_of low_of checked_of word_of signed_of sum_of difference_of is_zero code_bits bad_records error_flags source_at destination_at places_of sources_of caller_of opened_of resumed_with resumed_of saved_store flags_after finished_state moved_state written_state switched_state fetched_state fetch_done fetch_of decoded_state decode_done decode_of addressed_state operands_done operands_of nop_done nop_of near_call_done near_call_of near_call_store arithmetic_done arithmetic_of close_done close_of return_of execute_done execute_of execute_store
+unfolding events_of finished_of trace charge_of with_ergs with_sp with_pc kernel_mode read_of low_of checked_of word_of signed_of overflowing_sum overflowing_difference is_zero code_bits bad_records error_flags source_at destination_at places_of sources_of caller_of opened_of resumed_with resumed_of saved_store flags_after finished_state moved_state written_state switched_state fetched_state fetch_done fetch_of decoded_state decode_done decode_of addressed_state operands_done operands_of nop_done nop_of near_call_done near_call_of near_call_store arithmetic_done arithmetic_of close_done close_of return_of execute_done execute_of execute_store
 in_turn = record { earlier = take 4 events; later = drop 16 events; found = refl }
 
 opens_frame : operation core call ≡ near_call
-unfolding operation finished_of trace charge_of with_ergs with_sp with_pc kernel_mode read_of low_of checked_of word_of signed_of sum_of difference_of is_zero code_bits bad_records error_flags source_at destination_at places_of sources_of caller_of opened_of resumed_with resumed_of saved_store flags_after finished_state moved_state written_state switched_state fetched_state fetch_done fetch_of decoded_state decode_done decode_of addressed_state operands_done operands_of nop_done nop_of near_call_done near_call_of near_call_store arithmetic_done arithmetic_of close_done close_of return_of execute_done execute_of execute_store
+unfolding operation finished_of trace charge_of with_ergs with_sp with_pc kernel_mode read_of low_of checked_of word_of signed_of overflowing_sum overflowing_difference is_zero code_bits bad_records error_flags source_at destination_at places_of sources_of caller_of opened_of resumed_with resumed_of saved_store flags_after finished_state moved_state written_state switched_state fetched_state fetch_done fetch_of decoded_state decode_done decode_of addressed_state operands_done operands_of nop_done nop_of near_call_done near_call_of near_call_store arithmetic_done arithmetic_of close_done close_of return_of execute_done execute_of execute_store
 opens_frame = refl
 
 closes_last : ClosesWithLast core calling
-unfolding operation opened closed sum finished_of trace charge_of with_ergs with_sp with_pc kernel_mode read_of low_of checked_of word_of signed_of sum_of difference_of is_zero code_bits bad_records error_flags source_at destination_at places_of sources_of caller_of opened_of resumed_with resumed_of saved_store flags_after finished_state moved_state written_state switched_state fetched_state fetch_done fetch_of decoded_state decode_done decode_of addressed_state operands_done operands_of nop_done nop_of near_call_done near_call_of near_call_store arithmetic_done arithmetic_of close_done close_of return_of execute_done execute_of execute_store
+unfolding operation opened closed sum finished_of trace charge_of with_ergs with_sp with_pc kernel_mode read_of low_of checked_of word_of signed_of overflowing_sum overflowing_difference is_zero code_bits bad_records error_flags source_at destination_at places_of sources_of caller_of opened_of resumed_with resumed_of saved_store flags_after finished_state moved_state written_state switched_state fetched_state fetch_done fetch_of decoded_state decode_done decode_of addressed_state operands_done operands_of nop_done nop_of near_call_done near_call_of near_call_store arithmetic_done arithmetic_of close_done close_of return_of execute_done execute_of execute_store
 closes_last = record { as_many = refl; not_before = before_last }
   where
     some : ◌≡◌ {A = ℕ} 1 0 → ⊥
@@ -147,14 +146,14 @@ resumes = callers_resume core laws listing start (empty_store 4) call (add ∷ [
 
 -- 994 before the call, 958 after the close, and 25 + 6 + 5 charged between
 pub resumed_figures : (core.ergs (before core call) ≡ 994) × (core.ergs (result core close).state ≡ 958) × (charges core calling ≡ 36)
-unfolding charge charges sum finished_of trace charge_of with_ergs with_sp with_pc kernel_mode read_of low_of checked_of word_of signed_of sum_of difference_of is_zero code_bits bad_records error_flags source_at destination_at places_of sources_of caller_of opened_of resumed_with resumed_of saved_store flags_after finished_state moved_state written_state switched_state fetched_state fetch_done fetch_of decoded_state decode_done decode_of addressed_state operands_done operands_of nop_done nop_of near_call_done near_call_of near_call_store arithmetic_done arithmetic_of close_done close_of return_of execute_done execute_of execute_store
+unfolding charge charges sum finished_of trace charge_of with_ergs with_sp with_pc kernel_mode read_of low_of checked_of word_of signed_of overflowing_sum overflowing_difference is_zero code_bits bad_records error_flags source_at destination_at places_of sources_of caller_of opened_of resumed_with resumed_of saved_store flags_after finished_state moved_state written_state switched_state fetched_state fetch_done fetch_of decoded_state decode_done decode_of addressed_state operands_done operands_of nop_done nop_of near_call_done near_call_of near_call_store arithmetic_done arithmetic_of close_done close_of return_of execute_done execute_of execute_store
 resumed_figures = (refl, refl, refl)
 
 -- the called frame has the counter before the call's cycle, the second; its caller, current where the listing starts, has its 0 before and after
 pub opening_figures : ((result core call).state.current.opening_cycle ≡ 1)
     × ((before core call).current.opening_cycle ≡ 0)
     × ((result core close).state.current.opening_cycle ≡ 0)
-unfolding charge charges sum finished_of trace charge_of with_ergs with_sp with_pc kernel_mode read_of low_of checked_of word_of signed_of sum_of difference_of is_zero code_bits bad_records error_flags source_at destination_at places_of sources_of caller_of opened_of resumed_with resumed_of saved_store flags_after finished_state moved_state written_state switched_state fetched_state fetch_done fetch_of decoded_state decode_done decode_of addressed_state operands_done operands_of nop_done nop_of near_call_done near_call_of near_call_store arithmetic_done arithmetic_of close_done close_of return_of execute_done execute_of execute_store
+unfolding charge charges sum finished_of trace charge_of with_ergs with_sp with_pc kernel_mode read_of low_of checked_of word_of signed_of overflowing_sum overflowing_difference is_zero code_bits bad_records error_flags source_at destination_at places_of sources_of caller_of opened_of resumed_with resumed_of saved_store flags_after finished_state moved_state written_state switched_state fetched_state fetch_done fetch_of decoded_state decode_done decode_of addressed_state operands_done operands_of nop_done nop_of near_call_done near_call_of near_call_store arithmetic_done arithmetic_of close_done close_of return_of execute_done execute_of execute_store
 opening_figures = (refl, refl, refl)
 
 -- ---- what lasts of a frame, on one whose words all differ: all but sp, pc, ergs, the two heap bounds and pubdata

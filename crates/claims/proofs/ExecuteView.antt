@@ -100,7 +100,7 @@ module _ (x : ExecuteInput) (s : State) (store : List ℕ) where
     want = want_in x.word x.pointer s
 
     call_view : operation_of op ≡ machines.near_call → bad_store settings s store ≡ false → Viewed (near_call_of settings want s) (near_call_store settings want s store)
-    unfolding near_call_of near_call_store near_call_done switched_state finished_state opened_of caller_of lasting_of machines.row_at machines.first_rows
+    unfolding near_call_of near_call_store near_call_done switched_state finished_state opened_of caller_of lasting_of machines.machine_row machines.first_rows
     call_view e b =
         both Viewed (eqb (call_refusal_in settings s) 0) (near_call_done settings want s) (refused_with s (call_refusal_in settings s))
         (saved_store store s.depth (caller_in settings want s)) store
@@ -127,7 +127,7 @@ module _ (x : ExecuteInput) (s : State) (store : List ℕ) where
 
     -- ---- return
     close_view : operation_of op ≡ machines.ret → (s.depth ≡ 0 → ⊥) → (row : Result Frame RowError) → read_of 16 store (s.depth - 1) ≡ row → Viewed (return_to settings s row) store
-    unfolding close_of close_done switched_state finished_state resumed_with resumed_of lasting_of machines.row_at
+    unfolding close_of close_done switched_state finished_state resumed_with resumed_of lasting_of machines.machine_row
     close_view e d (Ok caller) q =
         by_checks execute_numbers tt s store Done (close_checks settings caller s) tt tt (close_done settings caller s) refl
         (λ c.

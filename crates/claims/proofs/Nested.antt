@@ -11,7 +11,7 @@ use Rattle.frame.specs.Fields.{with_ergs, with_sp, with_pc}
 use Rattle.frame.specs.Kernel.{kernel_mode}
 use Rattle.frame.specs.Store.{saved_store, read_of}
 use Rattle.signed.specs.Signed.{checked_of, word_of, signed_of}
-use Rattle.u256.specs.U256.{low_of, sum_of, difference_of, is_zero}
+use Rattle.u256.specs.U256.{low_of, overflowing_sum, overflowing_difference, is_zero}
 use Rattle.decoding.specs.Code.{code_bits}
 use Rattle.records.specs.Record.{bad_records}
 use Rattle.decoding.specs.Charge.{error_flags}
@@ -29,7 +29,7 @@ use Rattle.stages.specs.NearCall.{near_call_done, near_call_of, near_call_store}
 use Rattle.stages.specs.Arithmetic.{arithmetic_done, arithmetic_of}
 use Rattle.stages.specs.Ret.{close_done, close_of, return_of}
 use Rattle.stages.specs.Execute.{execute_done, execute_of, execute_store}
-use Rattle.lists.specs.Machine.{Operation, near_call, ret, neither, charge_of}
+use Rattle.lists.specs.Machine.{FrameOperation, near_call, ret, neither, charge_of}
 use Rattle.lists.specs.Lists.{Call, trace, finished_of, Cycle, events_of, charge, charges, operation, opened, closed, sum, before, result, share, InTurn}
 use Rattle.lists.specs.Claims.{ClosesWithLast, CallerResumes, span}
 use Rattle.lists.proofs.Resume.{callers_resume}
@@ -70,7 +70,7 @@ pub figures : (finished_of core (trace core calls start (empty_store 4)) ≡ eve
     × (core.ergs (result core last).state ≡ 845)
     × (share core outer ≡ 675)
     × (core.passes outer.execute.input outer.execute.state ≡ 300)
-unfolding events_of operation opened closed sum charge charges share finished_of trace charge_of with_ergs with_sp with_pc kernel_mode read_of low_of checked_of word_of signed_of sum_of difference_of is_zero code_bits bad_records error_flags source_at destination_at places_of sources_of caller_of opened_of resumed_with resumed_of saved_store flags_after finished_state moved_state written_state switched_state fetched_state fetch_done fetch_of decoded_state decode_done decode_of addressed_state operands_done operands_of nop_done nop_of near_call_done near_call_of near_call_store arithmetic_done arithmetic_of close_done close_of return_of execute_done execute_of execute_store
+unfolding events_of operation opened closed sum charge charges share finished_of trace charge_of with_ergs with_sp with_pc kernel_mode read_of low_of checked_of word_of signed_of overflowing_sum overflowing_difference is_zero code_bits bad_records error_flags source_at destination_at places_of sources_of caller_of opened_of resumed_with resumed_of saved_store flags_after finished_state moved_state written_state switched_state fetched_state fetch_done fetch_of decoded_state decode_done decode_of addressed_state operands_done operands_of nop_done nop_of near_call_done near_call_of near_call_store arithmetic_done arithmetic_of close_done close_of return_of execute_done execute_of execute_store
 figures = (refl, refl, refl, refl, refl, refl, refl, refl, refl, refl)
 
 in_turn : InTurn core calls start (empty_store 4) cycles
@@ -78,7 +78,7 @@ unfolding events_of
 in_turn = record { earlier = []; later = []; found = figures.0 }
 
 opens_frame : operation core outer ≡ near_call
-opens_frame = ap (λ (l : List Operation). get_or l 0 neither) figures.1
+opens_frame = ap (λ (l : List FrameOperation). get_or l 0 neither) figures.1
 
 closes_last : ClosesWithLast core cycles
 closes_last = record { as_many = nth 3 figures.3 ∙ sym (nth 3 figures.4); not_before = before_last }

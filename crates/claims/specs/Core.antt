@@ -54,11 +54,11 @@ abbrev pub execute_outcome : ExecuteInput → State → List ℕ → machines.Ou
 execute_outcome x s store = outcome_in (execute_of x.settings x.word x.pointer s store) (execute_store x.settings x.word x.pointer s store)
 
 -- stages 0 to 3; at any other number every call is refused
-abbrev pub stage_of : ℕ → machines.Stage
+abbrev pub stage_of : ℕ → machines.Reached
 stage_of n = cond (eqb n 0) machines.ready (cond (eqb n 1) machines.fetched (cond (eqb n 2) machines.decoded machines.addressed))
 
 -- operation 3 is near call, 4 return
-abbrev pub operation_of : ℕ → machines.Operation
+abbrev pub operation_of : ℕ → machines.FrameOperation
 operation_of n = cond (eqb n 3) machines.near_call (cond (eqb n 4) machines.ret machines.neither)
 
 -- what no stage changes of a frame as long as it lives, the cycle of its opening too: all but its ergs, sp, pc, heap bounds and pubdata, which are 0 here

@@ -1,13 +1,14 @@
 -- The edges that document 01 marks P, in its words and order, each computed by the definitions that the stages are proved equal to.
 use Rattle.std.specs.Prelude.{ℕ, ◌-◌, ◌^◌, true, false, ◌≡◌, List, [], ◌∷◌, ◌++◌, Option, None, Some, Result, Ok, Err, replicate}
 use mir.Val.{bool_byte}
-use Rattle.u256.specs.U256.{value_of, words_of, one_word}
+use Rattle.u256.specs.U256.{empty_word, value_of, words_of, one_word}
 use Rattle.refusal.specs.declared.Refusal.{Refusal}
 use Rattle.refusal.specs.Refusal.{paper_number}
 use Rattle.frame.specs.Row.{frame_of}
 use Rattle.frame.specs.Store.{row_at}
-use Rattle.registers.specs.Registers.{empty_word, register_of}
+use Rattle.registers.specs.Registers.{register_of}
 use Rattle.records.specs.declared.Flags.{Flags}
+use Rattle.records.specs.declared.Record.{Record}
 use Rattle.decoding.specs.Charge.{any_error}
 use Rattle.stages.specs.declared.State.{State}
 use Rattle.stages.specs.declared.Staged.{Staged}
@@ -44,7 +45,7 @@ decodes ergs price = figures after.state after.answer
   where
     after : Staged DecodeAnswer
     after =
-        decode_of (settings_of 4 1) (records_of (instruction 1 0 0 0 0 0 0 0 0 price false)) (state_at 1 (replicate 15 empty_word) ergs 0 no_record)
+        decode_of (settings_of 4 1) (records_of (instruction 1 0 0 0 price)) (state_at 1 (replicate 15 empty_word) ergs 0 no_record)
         (empty_store 4)
 
 -- a near call that requests so much, at this multiplier and so many ergs: the depth afterwards, what is given, and what is kept in the caller's row
@@ -62,7 +63,7 @@ calls multiplier held want =
     division after.state after.answer (row_at (execute_store (settings_of 4 multiplier) empty_word false s (empty_store 4)) 1)
   where
     s : State
-    s = state_at 3 (one_word want ∷ replicate 14 empty_word) held 0 (instruction 3 0 0 0 1 0 0 0 0 0 false)
+    s = state_at 3 (one_word want ∷ replicate 14 empty_word) held 0 (instruction 3 0 0 1 0)
 
     after : Staged ExecuteAnswer
     after = execute_of (settings_of 4 multiplier) empty_word false s (empty_store 4)
@@ -73,15 +74,65 @@ abbrev places : State → Result OperandsAnswer Refusal → List ℕ
 places s (Ok answer) = location_case answer.source ++ (location_case answer.destination ++ (s.current.sp ∷ []))
 places s (Err refusal) = paper_number refusal ∷ []
 
+-- an add of these kinds and immediates
+abbrev placed : ℕ → ℕ → ℕ → ℕ → Record
+placed source destination imm0 imm1 = record {
+  operation = 1;
+  source_kind = source;
+  destination_kind = destination;
+  imm_0 = imm0;
+  imm_1 = imm1;
+  -- the rest 0 or no
+  return_kind = 0;
+  condition = 0;
+  src0 = 0;
+  src1 = 0;
+  dst0 = 0;
+  price = 0;
+  explicit_panic = false;
+  kernel_only = false;
+  allowed_when_static = false;
+  swap = false;
+  set_flags = false;
+  to_label = false;
+  src0_may_be_pointer = false;
+  src1_may_be_pointer = false;
+}
+
 abbrev pub addresses : ℕ → ℕ → ℕ → ℕ → ℕ → List ℕ
 addresses source destination imm0 imm1 sp = places after.state after.answer
   where
     after : Staged OperandsAnswer
-    after = operands_of (settings_of 4 1) (state_at 2 (replicate 15 empty_word) 0 sp (instruction 1 0 source destination 0 0 0 imm0 imm1 0 false)) (empty_store 4)
+    after = operands_of (settings_of 4 1) (state_at 2 (replicate 15 empty_word) 0 sp (placed source destination imm0 imm1)) (empty_store 4)
 
 -- an operation (1 add, 2 sub) of registers 1 and 2 into register 3, with set flags: the result, then overflow, equal, greater
 abbrev bits : Flags → List ℕ
 bits f = bool_byte f.overflow_or_less_than_flag ∷ bool_byte f.equality_flag ∷ bool_byte f.greater_than_flag ∷ []
+
+-- its record
+abbrev combining : ℕ → Record
+combining operation = record {
+  operation = operation;
+  src0 = 1;
+  src1 = 2;
+  dst0 = 3;
+  set_flags = true;
+  -- the rest 0 or no
+  return_kind = 0;
+  condition = 0;
+  source_kind = 0;
+  destination_kind = 0;
+  imm_0 = 0;
+  imm_1 = 0;
+  price = 0;
+  explicit_panic = false;
+  kernel_only = false;
+  allowed_when_static = false;
+  swap = false;
+  to_label = false;
+  src0_may_be_pointer = false;
+  src1_may_be_pointer = false;
+}
 
 abbrev pub combines : ℕ → ℕ → ℕ → List ℕ
 combines operation a b = value_of (register_of after.registers 3) ∷ bits after.flags
@@ -89,7 +140,7 @@ combines operation a b = value_of (register_of after.registers 3) ∷ bits after
     after : State
     after =
         (execute_of (settings_of 4 1) empty_word false
-        (state_at 3 (words_of a ∷ words_of b ∷ replicate 13 empty_word) 0 0 (instruction operation 0 0 0 1 2 3 0 0 0 true)) (empty_store 4)).state
+        (state_at 3 (words_of a ∷ words_of b ∷ replicate 13 empty_word) 0 0 (combining operation)) (empty_store 4)).state
 
 -- a nop at this pc: the code word that the query asks for, as a location; what fetch answers, 0 for code and the part of the word (each part holds its number, the
 -- highest 64 bits 0); and pc afterwards

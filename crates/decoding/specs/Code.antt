@@ -10,8 +10,8 @@ abbrev pub sub_pc : ℕ → ℕ
 sub_pc pc = pc % 4
 
 -- "page or super pc changed, and not ended"
-abbrev pub code_wanted : Bool → ℕ → ℕ → ℕ → ℕ → Bool
-code_wanted ended page previous_page super_pc previous_super_pc = not ended && (not (page == previous_page) || not (super_pc == previous_super_pc))
+abbrev pub code_changed : Bool → ℕ → ℕ → ℕ → ℕ → Bool
+code_changed ended page previous_page super_pc previous_super_pc = not ended && (not (page == previous_page) || not (super_pc == previous_super_pc))
 
 -- 64 bits of the 256: at sub pc 3 the lowest
 unfoldable pub code_bits : U256 → ℕ → ℕ

@@ -1,6 +1,6 @@
 // The parts of a pc, and the 64 bits of a code word that it points at.
 ghost use Rattle.std.specs.Prelude.{◌≡◌};
-ghost use Rattle.decoding.specs.Code.{super_pc, sub_pc, code_wanted, code_bits};
+ghost use Rattle.decoding.specs.Code.{super_pc, sub_pc, code_changed, code_bits};
 
 use u256::U256;
 
@@ -30,14 +30,14 @@ pub fn code_bits(word: U256, sub_pc: u16) -> u64
 }
 
 // Whether a code read is wanted.
-pub fn code_wanted(
+pub fn code_changed(
     ended: bool,
     page: u32,
     previous_page: u32,
     super_pc: u16,
     previous_super_pc: u16,
 ) -> bool
-    ensures { result ≡ code_wanted ended page previous_page super_pc previous_super_pc }
+    ensures { result ≡ code_changed ended page previous_page super_pc previous_super_pc }
 {
     !ended & ((page != previous_page) | (super_pc != previous_super_pc))
 }

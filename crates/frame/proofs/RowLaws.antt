@@ -14,7 +14,7 @@ use borrow.Author.Tests.{lt-ltb}
 use Rattle.signed.specs.Signed.{fits_signed}
 use Rattle.signed.proofs.SignedLaws.{signed_of_word, word_of_signed}
 use Rattle.frame.specs.declared.Frame.{Frame}
-use Rattle.frame.specs.Row.{row_width, row_of, word, frame_of, good_words, good_row}
+use Rattle.frame.specs.Row.{row_width, row_of, row_word, frame_of, good_words, good_row}
 use Rattle.frame.specs.Bounds.{Bounds}
 
 -- what the test of a good row tells
@@ -68,7 +68,7 @@ good_of_frame w f r =
 -- a row's words, one by one
 listed : ℕ → ℕ → List ℕ → List ℕ
 listed zero k row = []
-listed (suc n) k row = word row k ∷ listed n (suc k) row
+listed (suc n) k row = row_word row k ∷ listed n (suc k) row
 
 listed_drop : (n k : ℕ) (row : List ℕ) → k + n ≡ length row → listed n k row ≡ drop k row
 unfolding listed
@@ -85,20 +85,20 @@ bit_word (suc (suc n)) h = absurd (none n h)
     none n h = omega arith
 
 -- the row of a good row's frame is the row, where its words have 32 bits
-pub row_of_frame : (w : ℕ) (row : List ℕ) → length row ≡ row_width → ((k : ℕ) → word row k < 2 ^ 32) → good_words w row ≡ true → row_of (frame_of row) ≡ row
+pub row_of_frame : (w : ℕ) (row : List ℕ) → length row ≡ row_width → ((k : ℕ) → row_word row k < 2 ^ 32) → good_words w row ≡ true → row_of (frame_of row) ≡ row
 unfolding listed
 row_of_frame w row e small g =
     let b = bounds w row (omega arith) g in
-    let l = two_words (word row 26) (word row 27) (small 26) in
-    let h = two_words (word row 28) (word row 29) (small 28) in
-    rw (bit_word (word row 24) b.static, bit_word (word row 25) b.local, l.0, l.1, h.0, h.1, word_of_signed 32 (word row 32) (small 32))
+    let l = two_words (row_word row 26) (row_word row 27) (small 26) in
+    let h = two_words (row_word row 28) (row_word row 29) (small 28) in
+    rw (bit_word (row_word row 24) b.static, bit_word (row_word row 25) b.local, l.0, l.1, h.0, h.1, word_of_signed 32 (row_word row 32) (small 32))
     (listed_drop row_width 0 row (sym e))
   where
     two_words : (m n : ℕ) → m < 2 ^ 32 → ((m + 2 ^ 32 * n) % 2 ^ 32 ≡ m) × ((m + 2 ^ 32 * n) / 2 ^ 32 ≡ n)
     two_words m n h = omega arith
 
 -- two good rows of 32-bit words hold the same frame exactly where their words agree
-pub frames_agree : (w : ℕ) (r s : List ℕ) → length r ≡ row_width → length s ≡ row_width → ((k : ℕ) → word r k < 2 ^ 32) → ((k : ℕ) → word s k < 2 ^ 32)
+pub frames_agree : (w : ℕ) (r s : List ℕ) → length r ≡ row_width → length s ≡ row_width → ((k : ℕ) → row_word r k < 2 ^ 32) → ((k : ℕ) → row_word s k < 2 ^ 32)
     → good_words w r ≡ true → good_words w s ≡ true → (frame_of r ≡ frame_of s) ↔ (r ≡ s)
 frames_agree w r s lr ls br bs gr gs = (
   λ e. sym (row_of_frame w r lr br gr) ∙ ap row_of e ∙ row_of_frame w s ls bs gs,

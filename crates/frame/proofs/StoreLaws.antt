@@ -16,7 +16,7 @@ use Rattle.std.proofs.lemmas.List.{drop-take, drop_all}
 use Rattle.frame.specs.declared.Frame.{Frame}
 use Rattle.frame.specs.declared.RowError.{RowError}
 use Rattle.frame.specs.Bounds.{Bounds}
-use Rattle.frame.specs.Row.{row_width, row_of, word, frame_of, good_words, good_row}
+use Rattle.frame.specs.Row.{row_width, row_of, row_word, frame_of, good_words, good_row}
 use Rattle.frame.specs.Store.{whole_rows, row_at, store_with, row_number, save_of, saved_store, save_refusal, read_of, read_refusal, saved_ergs}
 use Rattle.frame.proofs.RowLaws.{Ranges, bounds, good_of_frame, frame_of_row}
 
@@ -34,24 +34,6 @@ row_size store i h =
 -- the last row of the first k + 1 rows
 row_of_front : (store : List ℕ) (k : ℕ) → drop (k * row_width) (take ((k + 1) * row_width) store) ≡ row_at store k
 row_of_front store k = ap (λ (n : ℕ). drop (k * row_width) (take n store)) (sym (next_row k)) ∙ drop-take (k * row_width) row_width store
-
--- the first words decide whether a row is good
-pub front_row : (w : ℕ) (words : List ℕ) → row_width ≤ length words → good_words w (take row_width words) ≡ good_row w words
-front_row w words h =
-    rw (
-      le-leb row_width (length words) h,
-      at 17 (omega arith),
-      at 18 (omega arith),
-      at 19 (omega arith),
-      at 21 (omega arith),
-      at 22 (omega arith),
-      at 23 (omega arith),
-      at 24 (omega arith),
-      at 25 (omega arith),
-    )
-  where
-    at : (k : ℕ) → k < row_width → word (take row_width words) k ≡ word words k
-    at k l = get_or-take row_width words k 0 l
 
 -- ---- reading
 module _ (w : ℕ) (store : List ℕ) (i : ℕ) where
@@ -179,9 +161,9 @@ module _ (store : List ℕ) (i : ℕ) (f : Frame) where
 
 -- rows i and j of two stores agree exactly where their words do
 pub rows_agree : (s t : List ℕ) (i j : ℕ) → i < whole_rows s → j < whole_rows t
-    → (row_at s i ≡ row_at t j) ↔ ((k : ℕ) → k < row_width → word (row_at s i) k ≡ word (row_at t j) k)
+    → (row_at s i ≡ row_at t j) ↔ ((k : ℕ) → k < row_width → row_word (row_at s i) k ≡ row_word (row_at t j) k)
 rows_agree s t i j hs ht = (
-  λ e k l. ap (λ (row : List ℕ). word row k) e,
+  λ e k l. ap (λ (row : List ℕ). row_word row k) e,
   λ e. ext_get_or 0 (row_at s i) (row_at t j) (row_size s i hs ∙ sym (row_size t j ht)) (λ k l. e k (omega (arith, row_size s i hs))),
 )
 

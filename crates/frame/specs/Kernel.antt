@@ -4,12 +4,12 @@ use Rattle.frame.specs.declared.Frame.{Frame}
 use Rattle.frame.specs.declared.Address.{Address}
 
 -- the four bytes of a word, the highest first
-abbrev pub bytes_of : ℕ → List ℕ
-bytes_of w = w / 2 ^ 24 ∷ w / 2 ^ 16 % 256 ∷ w / 2 ^ 8 % 256 ∷ w % 256 ∷ []
+abbrev pub word_bytes : ℕ → List ℕ
+word_bytes w = w / 2 ^ 24 ∷ w / 2 ^ 16 % 256 ∷ w / 2 ^ 8 % 256 ∷ w % 256 ∷ []
 
 -- the 20 bytes of an address
 abbrev pub address_bytes : Address → List ℕ
-address_bytes a = bytes_of a.a0 ++ bytes_of a.a1 ++ bytes_of a.a2 ++ bytes_of a.a3 ++ bytes_of a.a4
+address_bytes a = word_bytes a.a0 ++ word_bytes a.a1 ++ word_bytes a.a2 ++ word_bytes a.a3 ++ word_bytes a.a4
 
 abbrev pub all_zero : List ℕ → Bool
 all_zero [] = true

@@ -46,16 +46,16 @@ row_of f =
     ∷ [])
 
 -- ---- the frame of a row's words
-abbrev pub word : List ℕ → ℕ → ℕ
-word row k = get_or row k 0
+abbrev pub row_word : List ℕ → ℕ → ℕ
+row_word row k = get_or row k 0
 
 abbrev pub address_from : List ℕ → ℕ → Address
 address_from row k = record {
-  a0 = word row k;
-  a1 = word row (k + 1);
-  a2 = word row (k + 2);
-  a3 = word row (k + 3);
-  a4 = word row (k + 4);
+  a0 = row_word row k;
+  a1 = row_word row (k + 1);
+  a2 = row_word row (k + 2);
+  a3 = row_word row (k + 3);
+  a4 = row_word row (k + 4);
 }
 
 abbrev pub u128_of : ℕ → ℕ → ℕ → ℕ → U128
@@ -69,23 +69,23 @@ frame_of row = record {
   this_address = address_from row 0;
   msg_sender = address_from row 5;
   code_address = address_from row 10;
-  base_memory_page = word row 15;
-  code_page = word row 16;
-  sp = word row 17;
-  pc = word row 18;
-  exception_handler_location = word row 19;
-  ergs_remaining = word row 20;
-  this_shard_id = word row 21;
-  caller_shard_id = word row 22;
-  code_shard_id = word row 23;
-  is_static = eqb (word row 24) 1;
-  is_local_frame = eqb (word row 25) 1;
-  context_u128_value = u128_of (word row 26) (word row 27) (word row 28) (word row 29);
-  heap_bound = word row 30;
-  aux_heap_bound = word row 31;
-  total_pubdata_spent = pubdata_of (word row 32);
-  stipend = word row 33;
-  opening_cycle = word row (row_width - 1);
+  base_memory_page = row_word row 15;
+  code_page = row_word row 16;
+  sp = row_word row 17;
+  pc = row_word row 18;
+  exception_handler_location = row_word row 19;
+  ergs_remaining = row_word row 20;
+  this_shard_id = row_word row 21;
+  caller_shard_id = row_word row 22;
+  code_shard_id = row_word row 23;
+  is_static = eqb (row_word row 24) 1;
+  is_local_frame = eqb (row_word row 25) 1;
+  context_u128_value = u128_of (row_word row 26) (row_word row 27) (row_word row 28) (row_word row 29);
+  heap_bound = row_word row 30;
+  aux_heap_bound = row_word row 31;
+  total_pubdata_spent = pubdata_of (row_word row 32);
+  stipend = row_word row 33;
+  opening_cycle = row_word row (row_width - 1);
 }
 
 -- ---- good rows
@@ -94,14 +94,14 @@ frame_of row = record {
 -- The other words, the cycle of opening among them, may have any value.
 abbrev pub good_words : ℕ → List ℕ → Bool
 good_words w row =
-    ltb (word row 17) (2 ^ w)
-    && ltb (word row 18) (2 ^ w)
-    && ltb (word row 19) (2 ^ w)
-    && ltb (word row 21) 256
-    && ltb (word row 22) 256
-    && ltb (word row 23) 256
-    && ltb (word row 24) 2
-    && ltb (word row 25) 2
+    ltb (row_word row 17) (2 ^ w)
+    && ltb (row_word row 18) (2 ^ w)
+    && ltb (row_word row 19) (2 ^ w)
+    && ltb (row_word row 21) 256
+    && ltb (row_word row 22) 256
+    && ltb (row_word row 23) 256
+    && ltb (row_word row 24) 2
+    && ltb (row_word row 25) 2
 
 -- fewer words than a row's are no good row
 abbrev pub good_row : ℕ → List ℕ → Bool

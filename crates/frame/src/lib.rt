@@ -3,7 +3,7 @@
 
 ghost use Rattle.std.specs.Prelude.{◌≡◌, ◌*◌, ◌≤◌};
 ghost use Rattle.frame.specs.Kernel.{kernel_mode};
-ghost use Rattle.frame.specs.Row.{good_row, frame_of};
+ghost use Rattle.frame.specs.Row.{frame_of};
 ghost use Rattle.frame.specs.Store.{refusal_of, save_of, saved_store, row_number, save_refusal, read_of, read_refusal, row_at, saved_ergs};
 
 mod row;
@@ -117,16 +117,6 @@ impl From<RowError> for Refusal {
             RowError::NotGood => Refusal::NoCaller,
         }
     }
-}
-
-// Whether words begin with a good row.
-pub fn good_row(words: &[u32]) -> bool
-    ensures { result ≡ good_row 16 words.now }
-{
-    let Some(row) = words.first_chunk() else {
-        return false;
-    };
-    row::is_good(row)
 }
 
 // Rows and depths have 32 bits. Where they count rows or words they are cast: `usize` has no `From<u32>`, and `try_from` an error that cannot come.

@@ -2,9 +2,8 @@
 -- no line sets is 0 or no, but for the masked records' operations and a call's register."
 use Rattle.std.specs.Prelude.{ℕ, ◌+◌, false, cond, List, Result, Ok, Err, replicate, set, get_or}
 use Rattle.std.specs.Result.{is_ok}
-use Rattle.u256.specs.U256.{one_word}
+use Rattle.u256.specs.U256.{empty_word, one_word}
 use Rattle.frame.specs.Store.{saved_ergs}
-use Rattle.registers.specs.Registers.{empty_word}
 use Rattle.records.specs.declared.Record.{Record}
 use Rattle.stages.specs.declared.State.{State}
 use Rattle.cycle.specs.declared.Input.{Input}
@@ -29,17 +28,14 @@ pub record Run : Type 0 where
 abbrev pub start_run : ℕ → Run
 start_run ergs = record { state = start_state ergs 0; store = empty_store 16; tally = replicate 17 0 }
 
--- operation (1 add, 3 near call, 4 return), return kind (0 ok, 1 revert, 2 panic), src0 and price
-abbrev pub plain_record : ℕ → ℕ → ℕ → ℕ → Record
-plain_record operation kind src0 price = instruction operation kind 0 0 src0 0 0 0 0 price false
-
--- the instruction of each op; a call's src0 is register 1
+-- the instruction of each op: operation (1 add, 3 near call, 4 return), return kind (0 ok, 1 revert, 2 panic), a source in a register, src0 (a call's is register 1)
+-- and price
 abbrev pub op_record : Op → ℕ → Record
-op_record Op.Add price = plain_record 1 0 0 price
-op_record Op.Call price = plain_record 3 0 1 price
-op_record Op.Ok price = plain_record 4 0 0 price
-op_record Op.Revert price = plain_record 4 1 0 price
-op_record Op.Panic price = plain_record 4 2 0 price
+op_record Op.Add price = instruction 1 0 0 0 price
+op_record Op.Call price = instruction 3 0 0 1 price
+op_record Op.Ok price = instruction 4 0 0 0 price
+op_record Op.Revert price = instruction 4 1 0 0 price
+op_record Op.Panic price = instruction 4 2 0 0 price
 
 unfoldable pub input_of : ℕ → Op → ℕ → Input
 input_of limit op price = record {

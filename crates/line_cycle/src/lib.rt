@@ -7,7 +7,7 @@ ghost use Rattle.line_cycle.specs.LineCycle.{op_record, input_of, requested_stat
 
 use cycle::Input;
 use records::Record;
-use records::kinds::{Operation, ReturnKind};
+use records::kinds::{OperandKind, Operation, ReturnKind};
 use refusal::Refusal;
 use stages::State;
 use table::{Line, Op, Row};
@@ -32,20 +32,15 @@ fn record_of(op: Op, price: u32) -> Record
         Op::Revert => (Operation::Ret, ReturnKind::Revert, 0),
         Op::Panic => (Operation::Ret, ReturnKind::Panic, 0),
     };
-    Record {
-        operation: operation as u8,
-        return_kind: return_kind as u8,
-        src0,
-        price,
-        ..Record::default()
-    }
+    let register = OperandKind::Register as u8;
+    start::instruction(operation as u8, return_kind as u8, register, src0, price)
 }
 
 #[tactic(auto, unfolding(crate::specs::LineCycle::input_of))]
 pub fn input_of(limit: u32, op: Op, price: u32) -> Input
     ensures { result ≡ input_of limit op price }
 {
-    let none = registers::empty_word();
+    let none = u256::empty_word();
     let settings = start::settings_of(limit, 1);
     let records = start::records_of(record_of(op, price));
     Input {

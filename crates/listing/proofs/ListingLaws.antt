@@ -7,7 +7,7 @@ use Rattle.text.proofs.BytesLaws.{join, wrote_length}
 use Rattle.text.proofs.PartsLaws.{line_end, lines_cut}
 use Rattle.table.specs.declared.Line.{Line}
 use Rattle.table.specs.Line.{line_of}
-use Rattle.table.specs.Row.{row_text, bad_line, refused_with}
+use Rattle.table.specs.Row.{row_text, bad_line, refused_line}
 use Rattle.std.specs.Prelude.{Ok, Err}
 use Rattle.refusal.specs.declared.Refusal.{Refusal}
 use Rattle.refusal.specs.Refusal.{paper_number}
@@ -55,7 +55,7 @@ module _ {old : Writer} {text : List ℕ} {limit n : ℕ} {b : Run} {lines : Lis
     going_bad e w = p.ends new (rw (next, e) w)
 
     module _ {read : Line} (is : line_of line ≡ Some read) where
-      pub going_refused : (refusal : Refusal) → (ran_of limit read b).answer ≡ Err refusal → Wrote now (refused_with (paper_number refusal)) new → Wrote old text new
+      pub going_refused : (refusal : Refusal) → (ran_of limit read b).answer ≡ Err refusal → Wrote now (refused_line (paper_number refusal)) new → Wrote old text new
       going_refused refusal h w = p.ends new (rw (next, is, h) w)
 
       pub going_on : (ran_of limit read b).answer ≡ Ok tt → Wrote now (cycle_row limit n b read) new

@@ -24,7 +24,7 @@ use Rattle.refusal.specs.declared.Refusal.{Refusal}
 use Rattle.refusal.specs.Refusal.{paper_number}
 use Rattle.line_cycle.specs.LineCycle.{Run, start_run, ran_of, run_after, printed_row}
 use Rattle.listing.proofs.ListingLaws.{cycle_row}
-use Rattle.listing.specs.Listing.{going_on, line_text, lines_text, named, third_on, started, second_on, first_on, listing_of}
+use Rattle.listing.specs.Listing.{going_on, line_text, lines_text, named, from_columns_line, started, from_values_line, from_names_line, listing_of}
 
 -- the bytes of lines, with one for each line's end
 size : List (List ℕ) → ℕ
@@ -81,8 +81,8 @@ named_size : (n : ℕ) (t : Bool) (later : List ℕ) (most : ℕ) → length lat
 named_size n true later most h m = h
 named_size n false later most h m = omega (arith, labelled_length (bytes_of "bad line ") n)
 
-third_size : (ergs limit : ℕ) (lines : List (List ℕ)) → length (third_on ergs limit lines) ≤ 20 * size lines + 30
-unfolding third_on
+third_size : (ergs limit : ℕ) (lines : List (List ℕ)) → length (from_columns_line ergs limit lines) ≤ 20 * size lines + 30
+unfolding from_columns_line
 third_size ergs limit lines =
     named_size 3 (same_bytes (get_or lines 0 []) (bytes_of "op price want")) (lines_text limit 1 (start_run ergs) (drop 1 lines)) (20 * size lines + 30)
     (omega (arith, lines_size limit 1 (start_run ergs) (drop 1 lines), size_drop lines)) (omega arith)
@@ -91,10 +91,10 @@ started_size : (start : Option Start) (lines : List (List ℕ)) → length (star
 started_size None lines = omega (arith, labelled_length (bytes_of "bad line ") 2)
 started_size (Some start) lines = third_size start.ergs start.limit lines
 
-first_size : (lines : List (List ℕ)) → length (first_on lines) ≤ 20 * size lines + 30
-unfolding first_on second_on
+first_size : (lines : List (List ℕ)) → length (from_names_line lines) ≤ 20 * size lines + 30
+unfolding from_names_line from_values_line
 first_size lines =
-    named_size 1 (same_bytes (get_or lines 0 []) (bytes_of "ergs limit")) (second_on (drop 1 lines)) (20 * size lines + 30)
+    named_size 1 (same_bytes (get_or lines 0 []) (bytes_of "ergs limit")) (from_values_line (drop 1 lines)) (20 * size lines + 30)
     (omega (arith, started_size (start_of (get_or (drop 1 lines) 0 [])) (drop 1 (drop 1 lines)), size_drop (drop 1 lines), size_drop lines)) (omega arith)
 
 -- the buffer has room for the whole listing
@@ -102,10 +102,10 @@ pub fits : (input : List ℕ) → length (listing_of input) ≤ 1310848
 unfolding listing_of
 fits input = go (ltb 65536 (length input)) refl
   where
-    go : (t : Bool) → ltb 65536 (length input) ≡ t → length (names_line ++ cond t (bad_line 0) (first_on (lines_of input))) ≤ 1310848
+    go : (t : Bool) → ltb 65536 (length input) ≡ t → length (names_line ++ cond t (bad_line 0) (from_names_line (lines_of input))) ≤ 1310848
     go true e = omega (arith, length-append names_line (bad_line 0), labelled_length (bytes_of "bad line ") 0)
     go false e =
-        omega (arith, length-append names_line (first_on (lines_of input)), first_size (lines_of input), size_cut input, ltb-false 65536 (length input) e)
+        omega (arith, length-append names_line (from_names_line (lines_of input)), first_size (lines_of input), size_cut input, ltb-false 65536 (length input) e)
 
 -- the whole listing, written from the front of a buffer that has room for it, and the rest of the buffer as it was
 pub listed : (input : List ℕ) (old : Writer) {new : Writer} → old.position ≡ 0 → length old.buffer.now ≡ 1310848 → Wrote old (listing_of input) new

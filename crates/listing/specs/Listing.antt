@@ -6,7 +6,7 @@ use Rattle.text.specs.Parts.{lines_of}
 use Rattle.table.specs.declared.Line.{Line}
 use Rattle.table.specs.declared.Start.{Start}
 use Rattle.table.specs.Line.{line_of, start_of}
-use Rattle.table.specs.Row.{row_text, bad_line, refused_with, names_line}
+use Rattle.table.specs.Row.{row_text, bad_line, refused_line, names_line}
 use Rattle.refusal.specs.declared.Refusal.{Refusal}
 use Rattle.refusal.specs.Refusal.{paper_number}
 use Rattle.line_cycle.specs.LineCycle.{Run, start_run, ran_of, run_after, printed_row}
@@ -14,7 +14,7 @@ use Rattle.line_cycle.specs.LineCycle.{Run, start_run, ran_of, run_after, printe
 -- what a line's cycle prints, which goes on so where nothing is refused
 abbrev pub going_on : Result (Unit {0}) Refusal → List ℕ → List ℕ
 going_on (Ok done) text = text
-going_on (Err refusal) text = refused_with (paper_number refusal)
+going_on (Err refusal) text = refused_line (paper_number refusal)
 
 -- what a line prints, with what the lines after it print from the run that it leaves. Cycle n stands on line n + 3.
 abbrev pub line_text : ℕ → ℕ → Run → Option Line → (Run → List ℕ) → List ℕ
@@ -33,18 +33,18 @@ lines_text limit n b (line ∷ lines) = line_text limit n b (line_of line) (λ n
 abbrev pub named : ℕ → Bool → List ℕ → List ℕ
 named n same later = cond same later (bad_line n)
 
-unfoldable pub third_on : ℕ → ℕ → List (List ℕ) → List ℕ
-third_on ergs limit lines = named 3 (same_bytes (get_or lines 0 []) (bytes_of "op price want")) (lines_text limit 1 (start_run ergs) (drop 1 lines))
+unfoldable pub from_columns_line : ℕ → ℕ → List (List ℕ) → List ℕ
+from_columns_line ergs limit lines = named 3 (same_bytes (get_or lines 0 []) (bytes_of "op price want")) (lines_text limit 1 (start_run ergs) (drop 1 lines))
 
 abbrev pub started : Option Start → List (List ℕ) → List ℕ
 started None lines = bad_line 2
-started (Some start) lines = third_on start.ergs start.limit lines
+started (Some start) lines = from_columns_line start.ergs start.limit lines
 
-unfoldable pub second_on : List (List ℕ) → List ℕ
-second_on lines = started (start_of (get_or lines 0 [])) (drop 1 lines)
+unfoldable pub from_values_line : List (List ℕ) → List ℕ
+from_values_line lines = started (start_of (get_or lines 0 [])) (drop 1 lines)
 
-unfoldable pub first_on : List (List ℕ) → List ℕ
-first_on lines = named 1 (same_bytes (get_or lines 0 []) (bytes_of "ergs limit")) (second_on (drop 1 lines))
+unfoldable pub from_names_line : List (List ℕ) → List ℕ
+from_names_line lines = named 1 (same_bytes (get_or lines 0 []) (bytes_of "ergs limit")) (from_values_line (drop 1 lines))
 
 unfoldable pub listing_of : List ℕ → List ℕ
-listing_of input = names_line ++ cond (ltb 65536 (length input)) (bad_line 0) (first_on (lines_of input))
+listing_of input = names_line ++ cond (ltb 65536 (length input)) (bad_line 0) (from_names_line (lines_of input))

@@ -6,7 +6,7 @@ ghost use Rattle.text.specs.Bytes.{Wrote};
 ghost use Rattle.text.specs.Lines.{lines_left};
 ghost use Rattle.table.specs.Row.{bad_line};
 ghost use Rattle.line_cycle.specs.LineCycle.{start_run};
-ghost use Rattle.listing.specs.Listing.{lines_text, first_on, listing_of};
+ghost use Rattle.listing.specs.Listing.{lines_text, from_names_line, listing_of};
 
 use table::Start;
 use text::{Lines, Writer};
@@ -61,11 +61,11 @@ struct BadLine {
 }
 
 // Where the first three lines start, or the first of them that is bad.
-#[tactic(auto, unfolding(crate::specs::Listing::first_on, crate::specs::Listing::second_on, crate::specs::Listing::third_on))]
+#[tactic(auto, unfolding(crate::specs::Listing::from_names_line, crate::specs::Listing::from_values_line, crate::specs::Listing::from_columns_line))]
 fn read_start(lines: &mut Lines<'_>) -> Result<Start, BadLine>
     ensures { MatchResult result
-        (λ start. first_on (lines_left lines.old) ≡ lines_text start.limit 1 (start_run start.ergs) (lines_left lines.new))
-        (λ bad. first_on (lines_left lines.old) ≡ bad_line bad.number) }
+        (λ start. from_names_line (lines_left lines.old) ≡ lines_text start.limit 1 (start_run start.ergs) (lines_left lines.new))
+        (λ bad. from_names_line (lines_left lines.old) ≡ bad_line bad.number) }
 {
     if next_line(lines) != b"ergs limit".as_slice() {
         return Err(BadLine { number: 1 });

@@ -6,8 +6,8 @@ use mathlib.Core.Path.{◌≡◌, refl, ap, subst₂}
 use mathlib.Core.List.{List, [], ◌∷◌, ◌++◌}
 use mathlib.Core.Option.{none}
 use native.Mathlib.Omega.{arith}
-use Rattle.lists.specs.Machine.{Machine, Outcome, Operation, near_call, ret, neither, finished}
-use Rattle.lists.specs.Lists.{Call, Event, called, outcome_of, trace, finished_of, Cycle, events_of, InTurn}
+use Rattle.lists.specs.Machine.{Machine, Outcome, FrameOperation, near_call, ret, neither, finished}
+use Rattle.lists.specs.Lists.{Call, Called, called, outcome_of, trace, finished_of, Cycle, events_of, InTurn}
 use Rattle.lists.specs.Lists.{before, store_before, result, charge, operation, opens, closes, opened, closed, sum}
 use Rattle.lists.specs.Laws.{Spends, Performs, Laws}
 use Rattle.lists.specs.Claims.{FramesCounted}
@@ -17,12 +17,12 @@ module _ (M : Machine) where
   open M use {State}
 
   -- each of these calls finished and was given what the one before gave; the first was given this state and this store
-  abbrev pub Follow : State → List ℕ → List (Event M) → Type 0
+  abbrev pub Follow : State → List ℕ → List (Called M) → Type 0
   Follow s m [] = Unit {0}
   Follow s m (called c t n ∷ es) =
       (t ≡ s) × (n ≡ m) × (finished (outcome_of M c t n) ≡ true) × Follow (outcome_of M c t n).state (outcome_of M c t n).store es
 
-  later_follow : (earlier : List (Event M)) (s : State) (m : List ℕ) (es : List (Event M)) → Follow s m (earlier ++ es) → (t : State) × (n : List ℕ) × Follow t n es
+  later_follow : (earlier : List (Called M)) (s : State) (m : List ℕ) (es : List (Called M)) → Follow s m (earlier ++ es) → (t : State) × (n : List ℕ) × Follow t n es
   later_follow [] s m es f = (s, m, f)
   later_follow (called c t n ∷ l) s m es f = later_follow l (outcome_of M c t n).state (outcome_of M c t n).store es f.3
 
@@ -43,7 +43,7 @@ module _ (M : Machine) (L : Laws M) where
   all_follow [] s m = tt
   all_follow (c ∷ cs) s m = go _ (finished (outcome_of M c s m)) refl (all_follow cs (outcome_of M c s m).state (outcome_of M c s m).store)
     where
-      go : (es : List (Event M)) (b : Bool) → finished (outcome_of M c s m) ≡ b
+      go : (es : List (Called M)) (b : Bool) → finished (outcome_of M c s m) ≡ b
           → Follow M (outcome_of M c s m).state (outcome_of M c s m).store es → Follow M s m (cond b (called c s m ∷ es) es)
       go es true e f = (refl, refl, e, f)
       go es false e f =
@@ -56,7 +56,7 @@ module _ (M : Machine) (L : Laws M) where
   follow {calls} {s} {store} t = later_follow M t.earlier s store _ (rw t.found at (all_follow calls s store))
 
   -- ---- what a cycle does
-  pub does : (s : State) (m : List ℕ) (c : Cycle M) (cs : List (Cycle M)) (later : List (Event M)) → Follow M s m (events_of M (c ∷ cs) ++ later) → Does M c
+  pub does : (s : State) (m : List ℕ) (c : Cycle M) (cs : List (Cycle M)) (later : List (Called M)) → Follow M s m (events_of M (c ∷ cs) ++ later) → Does M c
   unfolding events_of charge operation
   does s m c cs later f =
       let x = L.fetch_spends c.fetch.input c.fetch.state c.fetch.store f.2 in
@@ -82,7 +82,7 @@ module _ (M : Machine) (L : Laws M) where
       let d = does f.0 f.1 c [] t.later f.2 in
       go (operation M c) d.spends.depth_same d.performs
     where
-      go : (q : Operation) → depth c.execute.state ≡ depth (before M c)
+      go : (q : FrameOperation) → depth c.execute.state ≡ depth (before M c)
           → Performs M q c.execute.input c.execute.state c.execute.store (result M c)
           → depth (result M c).state + (closes q + 0) ≡ depth (before M c) + (opens q + 0)
       go near_call e z = omega (arith, z.depth_up)

@@ -9,8 +9,8 @@ use native.Mathlib.Omega.{arith}
 use native.Mathlib.Decide.{dec_lt}
 use native.Mathlib.Nat.{add-zero, add_assoc}
 use lib.ListN.{length, take}
-use Rattle.lists.specs.Machine.{Machine, Outcome, Operation, near_call, ret, neither, row_at, first_rows}
-use Rattle.lists.specs.Lists.{Event, Cycle, events_of, before, store_before, result, charge, charges, operation, opens, closes, opened, closed, sum, share}
+use Rattle.lists.specs.Machine.{Machine, Outcome, FrameOperation, near_call, ret, neither, machine_row, first_rows}
+use Rattle.lists.specs.Lists.{Called, Cycle, events_of, before, store_before, result, charge, charges, operation, opens, closes, opened, closed, sum, share}
 use Rattle.lists.specs.Laws.{Spends, OpensFrame, ClosesFrame, Performs, Laws}
 use Rattle.lists.specs.Claims.{CallersResume}
 use Rattle.lists.proofs.Rows.{fewer_same, row_same, saved_ergs, saved_same}
@@ -27,11 +27,11 @@ module _ (M : Machine) (call : Cycle M) where
   -- the caller's ergs and what lasts of it, with k frames above it: with none it is the current frame
   abbrev caller_ergs : ℕ → State → List ℕ → ℕ
   caller_ergs zero s m = ergs s
-  caller_ergs (suc k) s m = row_ergs (row_at M m d)
+  caller_ergs (suc k) s m = row_ergs (machine_row M m d)
 
   abbrev caller_lasting : ℕ → State → List ℕ → Lasting
   caller_lasting zero s m = lasting s
-  caller_lasting (suc k) s m = row_lasting (row_at M m d)
+  caller_lasting (suc k) s m = row_lasting (machine_row M m d)
 
   -- k frames, all of them local, stand above the caller, and `paid` was charged since
   record Above (k : ℕ) (s : State) (m : List ℕ) (paid : ℕ) : Type 0 where
@@ -40,7 +40,7 @@ module _ (M : Machine) (call : Cycle M) where
     enough : share M call ≤ caller_ergs k s m
     same : caller_lasting k s m ≡ lasting (before M call)
     top_local : 0 < k → is_local (lasting s) ≡ true
-    rows_local : (i : ℕ) → d < i → i < d + k → is_local (row_lasting (row_at M m i)) ≡ true
+    rows_local : (i : ℕ) → d < i → i < d + k → is_local (row_lasting (machine_row M m i)) ≡ true
     below : first_rows M d m ≡ first_rows M d (store_before M call)
 
   module _ {s : State} {m : List ℕ} {o : Outcome State} {paid : ℕ} where
@@ -57,8 +57,8 @@ module _ (M : Machine) (call : Cycle M) where
           below = a.below;
         })
 
-    opened_above : {k : ℕ} (x : ExecuteInput) → OpensFrame M x s m o → share M call ≤ row_ergs (row_at M o.store d)
-        → row_lasting (row_at M o.store d) ≡ lasting (before M call) → Above k s m paid → Above (suc k) o.state o.store paid
+    opened_above : {k : ℕ} (x : ExecuteInput) → OpensFrame M x s m o → share M call ≤ row_ergs (machine_row M o.store d)
+        → row_lasting (machine_row M o.store d) ≡ lasting (before M call) → Above k s m paid → Above (suc k) o.state o.store paid
     unfolding saved_ergs
     opened_above {k} x z l e a =
         record {
@@ -74,11 +74,11 @@ module _ (M : Machine) (call : Cycle M) where
         rows : first_rows M (d + k) o.store ≡ first_rows M (d + k) m
         rows = rw (← a.deep) z.below_same
 
-        row : row_ergs (row_at M o.store (d + k)) + passes x s ≡ ergs s
+        row : row_ergs (machine_row M o.store (d + k)) + passes x s ≡ ergs s
         row = rw (← a.deep) z.kept_back
 
         -- a row that was there, or the one saved now
-        go : (i : ℕ) → d < i → i < d + suc k → Dec (i < d + k) → is_local (row_lasting (row_at M o.store i)) ≡ true
+        go : (i : ℕ) → d < i → i < d + suc k → Dec (i < d + k) → is_local (row_lasting (machine_row M o.store i)) ≡ true
         go i p q (yes r) = rw (row_same M o.store m (d + k) rows i r) (a.rows_local i p r)
         go i p q (no r) =
             let at : i ≡ depth s = omega (arith, a.deep, r) in
@@ -101,18 +101,18 @@ module _ (M : Machine) (call : Cycle M) where
         at : depth o.state ≡ d + j
         at = omega (arith, z.depth_down, a.deep)
 
-        back : ergs o.state ≡ row_ergs (row_at M m (d + j)) + ergs s
+        back : ergs o.state ≡ row_ergs (machine_row M m (d + j)) + ergs s
         back = rw at at (z.ergs_back (a.top_local (omega arith)))
 
-        whole : lasting o.state ≡ row_lasting (row_at M m (d + j))
+        whole : lasting o.state ≡ row_lasting (machine_row M m (d + j))
         whole = rw at at z.lasting_back
 
-        go : (j : ℕ) → share M call ≤ row_ergs (row_at M m d) → ergs o.state ≡ row_ergs (row_at M m (d + j)) + ergs s
+        go : (j : ℕ) → share M call ≤ row_ergs (machine_row M m d) → ergs o.state ≡ row_ergs (machine_row M m (d + j)) + ergs s
             → share M call ≤ caller_ergs j o.state m
         go zero l e = omega (arith, rw (add-zero d) at e)
         go (suc j) l e = l
 
-        resumed : (j : ℕ) → row_lasting (row_at M m d) ≡ lasting (before M call) → lasting o.state ≡ row_lasting (row_at M m (d + j))
+        resumed : (j : ℕ) → row_lasting (machine_row M m d) ≡ lasting (before M call) → lasting o.state ≡ row_lasting (machine_row M m (d + j))
             → caller_lasting j o.state m ≡ lasting (before M call)
         resumed zero l e = rw (add-zero d) at e ∙ l
         resumed (suc j) l e = l
@@ -142,7 +142,7 @@ module _ (M : Machine) (L : Laws M) (call : Cycle M) where
   open M use {State, depth}
 
   -- one cycle, whatever its operation
-  over_cycle : (c : Cycle M) (cs : List (Cycle M)) (later : List (Event M)) (s : State) (m : List ℕ) (k paid : ℕ)
+  over_cycle : (c : Cycle M) (cs : List (Cycle M)) (later : List (Called M)) (s : State) (m : List ℕ) (k paid : ℕ)
       → Follow M s m (events_of M (c ∷ cs) ++ later)
       → 0 < k
       → Above M call k s m paid
@@ -159,7 +159,7 @@ module _ (M : Machine) (L : Laws M) (call : Cycle M) where
       b : Above M call (suc j) c.execute.state c.execute.store (paid + charge M c)
       b = spent_above M call x.spends (subst₂ (λ (t : State) (n : List ℕ). Above M call (suc j) t n paid) (sym f.0) (sym f.1) a)
 
-      go : (q : Operation) → Performs M q c.execute.input c.execute.state c.execute.store (result M c)
+      go : (q : FrameOperation) → Performs M q c.execute.input c.execute.state c.execute.store (result M c)
           → (k' : ℕ) × (k' + closes q ≡ suc j + opens q) × Above M call k' (result M c).state (result M c).store (paid + charge M c)
       go near_call z =
           let same = row_same M (result M c).store c.execute.store (depth c.execute.state) z.below_same (d M call) (omega (arith, b.deep)) in
@@ -171,7 +171,7 @@ module _ (M : Machine) (L : Laws M) (call : Cycle M) where
   abbrev LastCloses : ℕ → List (Cycle M) → Type 0
   LastCloses k cs = (k + opened M cs ≡ closed M cs) × ((i : ℕ) → i < length cs → k + opened M (take i cs) ≢ closed M (take i cs))
 
-  over_cycles : (between : List (Cycle M)) (close : Cycle M) (later : List (Event M)) (s : State) (m : List ℕ) (k paid : ℕ)
+  over_cycles : (between : List (Cycle M)) (close : Cycle M) (later : List (Called M)) (s : State) (m : List ℕ) (k paid : ℕ)
       → Follow M s m (events_of M (between ++ (close ∷ [])) ++ later)
       → LastCloses k (between ++ (close ∷ []))
       → Above M call k s m paid

@@ -7,7 +7,7 @@ use native.Mathlib.Nat.{mul-le-mul_right}
 use lib.ListN.{take, drop}
 use lib.Seq.{take-take}
 use Rattle.std.proofs.lemmas.List.{drop-take}
-use Rattle.lists.specs.Machine.{Machine, row_at, first_rows}
+use Rattle.lists.specs.Machine.{Machine, machine_row, first_rows}
 
 module _ (M : Machine) where
   open M use {row_width, row_ergs}
@@ -21,8 +21,8 @@ module _ (M : Machine) where
     unfolding first_rows
     fewer_same i h = words_same (i * row_width) (mul-le-mul_right row_width h)
 
-    pub row_same : (i : ℕ) → i < n → row_at M store i ≡ row_at M other i
-    unfolding row_at
+    pub row_same : (i : ℕ) → i < n → machine_row M store i ≡ machine_row M other i
+    unfolding machine_row
     row_same i h =
         sym (drop-take (i * row_width) row_width store)
         ∙ ap (drop (i * row_width)) (words_same (i * row_width + row_width) (omega (arith, mul-le-mul_right row_width h)))
@@ -31,7 +31,7 @@ module _ (M : Machine) where
   -- the ergs in k rows from row i on
   unfoldable pub saved_ergs : List ℕ → ℕ → ℕ → ℕ
   saved_ergs store i zero = 0
-  saved_ergs store i (suc k) = saved_ergs store i k + row_ergs (row_at M store (i + k))
+  saved_ergs store i (suc k) = saved_ergs store i k + row_ergs (machine_row M store (i + k))
 
   pub saved_same : (store other : List ℕ) (i k : ℕ) → first_rows M (i + k) store ≡ first_rows M (i + k) other → saved_ergs store i k ≡ saved_ergs other i k
   unfolding saved_ergs

@@ -1,8 +1,8 @@
 -- What is claimed of lists of stage calls. Quoted are document 01, "Lists of stage calls", and demand 3. "Demand 3 is a single claim about the whole list, not one
 -- for each call in it."
 use Rattle.std.specs.Prelude.{ℕ, ◌+◌, ◌≤◌, ◌<◌, ◌≡◌, ◌≢◌, List, [], ◌∷◌, ◌++◌, length, take}
-use Rattle.lists.specs.Machine.{Machine, Stage, ready, fetched, decoded, addressed, near_call, first_rows}
-use Rattle.lists.specs.Lists.{Call, Event, trace, finished_of, Cycle, events_of, InTurn}
+use Rattle.lists.specs.Machine.{Machine, Reached, ready, fetched, decoded, addressed, near_call, first_rows}
+use Rattle.lists.specs.Lists.{Call, Called, trace, finished_of, Cycle, events_of, InTurn}
 use Rattle.lists.specs.Lists.{before, store_before, result, charge, charges, operation, opened, closed, share}
 
 module _ (M : Machine) where
@@ -47,14 +47,14 @@ module _ (M : Machine) where
 
   -- ---- that no cycle and no frame is left out
   -- how many calls a cycle at a stage lacks
-  abbrev pub calls_left : Stage → ℕ
+  abbrev pub calls_left : Reached → ℕ
   calls_left = elim [ ready ↦ 0 | fetched ↦ 3 | decoded ↦ 2 | addressed ↦ 1 ]
 
   -- calls from a stage on: those that end a cycle begun before, then whole cycles, then fewer calls than a cycle has
-  pub record Covered (reached : Stage) (events : List (Event M)) : Type 0 where
-    pub ending : List (Event M)
+  pub record Covered (reached : Reached) (events : List (Called M)) : Type 0 where
+    pub ending : List (Called M)
     pub cycles : List (Cycle M)
-    pub begun : List (Event M)
+    pub begun : List (Called M)
     pub parts : events ≡ ending ++ (events_of M cycles ++ begun)
     pub few_ending : length ending ≤ calls_left reached
     pub few_begun : length begun < 4

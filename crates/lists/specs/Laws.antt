@@ -1,7 +1,7 @@
 -- The laws of the stages: all that the proofs of the claims know of a machine.
 use Rattle.std.specs.Prelude.{ℕ, suc, ◌+◌, ◌≡◌, true, false, List}
-use Rattle.lists.specs.Machine.{Machine, Outcome, Stage, ready, fetched, decoded, addressed, Operation, near_call, ret, neither}
-use Rattle.lists.specs.Machine.{finished, charge_of, row_at, first_rows}
+use Rattle.lists.specs.Machine.{Machine, Outcome, Reached, ready, fetched, decoded, addressed, FrameOperation, near_call, ret, neither}
+use Rattle.lists.specs.Machine.{finished, charge_of, machine_row, first_rows}
 use Rattle.lists.specs.Lists.{Call, fetch, decode, operands, execute, outcome_of}
 
 module _ (M : Machine) where
@@ -14,10 +14,10 @@ module _ (M : Machine) where
     pub store_same : o.store ≡ store
 
   -- the stage that a call takes the state at, and the stage that it brings it to
-  abbrev pub takes_at : Call M → Stage
+  abbrev pub takes_at : Call M → Reached
   takes_at = elim [ fetch x ↦ ready | decode x ↦ fetched | operands x ↦ decoded | execute x ↦ addressed ]
 
-  abbrev pub brings_to : Call M → Stage
+  abbrev pub brings_to : Call M → Reached
   brings_to = elim [ fetch x ↦ fetched | decode x ↦ decoded | operands x ↦ addressed | execute x ↦ ready ]
 
   pub record Advances (c : Call M) (s : State) (o : Outcome State) : Type 0 where
@@ -36,20 +36,20 @@ module _ (M : Machine) where
     pub depth_up : depth o.state ≡ suc (depth s)
     pub local_new : is_local (lasting o.state) ≡ true
     pub passed : ergs o.state ≡ passes x s
-    pub kept_back : row_ergs (row_at M o.store (depth s)) + passes x s ≡ ergs s
-    pub lasting_saved : row_lasting (row_at M o.store (depth s)) ≡ lasting s
+    pub kept_back : row_ergs (machine_row M o.store (depth s)) + passes x s ≡ ergs s
+    pub lasting_saved : row_lasting (machine_row M o.store (depth s)) ≡ lasting s
     pub below_same : first_rows M (depth s) o.store ≡ first_rows M (depth s) store
 
   -- a return: the caller is read from the last saved row. Document 01: "A local return of any kind, panic too, adds all the ergs the closed frame holds to its
   -- caller's."
   pub record ClosesFrame (s : State) (store : List ℕ) (o : Outcome State) : Type 0 where
     pub depth_down : depth s ≡ suc (depth o.state)
-    pub lasting_back : lasting o.state ≡ row_lasting (row_at M store (depth o.state))
-    pub ergs_back : is_local (lasting s) ≡ true → ergs o.state ≡ row_ergs (row_at M store (depth o.state)) + ergs s
+    pub lasting_back : lasting o.state ≡ row_lasting (machine_row M store (depth o.state))
+    pub ergs_back : is_local (lasting s) ≡ true → ergs o.state ≡ row_ergs (machine_row M store (depth o.state)) + ergs s
     pub store_same : o.store ≡ store
 
   -- what execute does, by the kept record's operation
-  abbrev pub Performs : Operation → ExecuteInput → State → List ℕ → Outcome State → Type 0
+  abbrev pub Performs : FrameOperation → ExecuteInput → State → List ℕ → Outcome State → Type 0
   Performs near_call x s store o = OpensFrame x s store o
   Performs ret x s store o = ClosesFrame s store o
   Performs neither x s store o = Spends 0 s store o

@@ -1,6 +1,6 @@
 -- Lists of stage calls, and the cycles in them. Quoted are document 01, "Lists of stage calls", and demand 3.
 use Rattle.std.specs.Prelude.{ℕ, ◌+◌, ◌-◌, ◌≡◌, cond, List, [], ◌∷◌, ◌++◌}
-use Rattle.lists.specs.Machine.{Machine, Outcome, Operation, near_call, ret, neither, finished, charge_of}
+use Rattle.lists.specs.Machine.{Machine, Outcome, FrameOperation, near_call, ret, neither, finished, charge_of}
 
 -- ---- calls
 -- a call of a stage, with what it is given besides the state and the store
@@ -11,8 +11,8 @@ pub data Call (M : Machine) : Type 0 where
   execute : M.ExecuteInput → Call M
 
 -- a call in a list, with the state and the store that it is given
-pub data Event (M : Machine) : Type 0 where
-  called : Call M → M.State → List ℕ → Event M
+pub data Called (M : Machine) : Type 0 where
+  called : Call M → M.State → List ℕ → Called M
 
 module _ (M : Machine) where
   open M use {State, fetch_of, decode_of, operands_of, execute_of}
@@ -24,12 +24,12 @@ module _ (M : Machine) where
   outcome_of (execute x) s store = execute_of x s store
 
   -- "Every stage gets the state last handed back, by a refusal too, and the one same store, which nobody but these calls writes meanwhile."
-  unfoldable pub trace : List (Call M) → State → List ℕ → List (Event M)
+  unfoldable pub trace : List (Call M) → State → List ℕ → List (Called M)
   trace [] s store = []
   trace (c ∷ cs) s store = called c s store ∷ trace cs (outcome_of c s store).state (outcome_of c s store).store
 
   -- the calls that finished; the refused ones are left out
-  unfoldable pub finished_of : List (Event M) → List (Event M)
+  unfoldable pub finished_of : List (Called M) → List (Called M)
   finished_of [] = []
   finished_of (called c s store ∷ es) = cond (finished (outcome_of c s store)) (called c s store ∷ finished_of es) (finished_of es)
 
@@ -49,19 +49,19 @@ pub record Cycle (M : Machine) : Type 0 where
 module _ (M : Machine) where
   open M use {State}
 
-  abbrev pub event_of : {Input : Type 0} → (Input → Call M) → Given State Input → Event M
+  abbrev pub event_of : {Input : Type 0} → (Input → Call M) → Given State Input → Called M
   event_of stage g = called (stage g.input) g.state g.store
 
   -- the calls of cycles, one cycle right after the other
-  unfoldable pub events_of : List (Cycle M) → List (Event M)
+  unfoldable pub events_of : List (Cycle M) → List (Called M)
   events_of [] = []
   events_of (c ∷ cs) = event_of fetch c.fetch ∷ event_of decode c.decode ∷ event_of operands c.operands ∷ event_of execute c.execute ∷ events_of cs
 
   -- "A cycle is a fetch, decode, operands and execute of the list, all finished, in turn; refused calls may stand between." These are cycles of the list, with no
   -- other finished call between them.
   pub record InTurn (calls : List (Call M)) (s : State) (store : List ℕ) (cycles : List (Cycle M)) : Type 0 where
-    pub earlier : List (Event M)
-    pub later : List (Event M)
+    pub earlier : List (Called M)
+    pub later : List (Called M)
     pub found : finished_of M (trace M calls s store) ≡ earlier ++ (events_of cycles ++ later)
 
 -- ---- what a cycle charges, opens, closes and keeps back
@@ -70,10 +70,10 @@ sum f [] = 0
 sum f (x ∷ xs) = f x + sum f xs
 
 -- how many frames an operation opens, and how many it closes
-abbrev pub opens : Operation → ℕ
+abbrev pub opens : FrameOperation → ℕ
 opens = elim [ near_call ↦ 1 | ret ↦ 0 | neither ↦ 0 ]
 
-abbrev pub closes : Operation → ℕ
+abbrev pub closes : FrameOperation → ℕ
 closes = elim [ near_call ↦ 0 | ret ↦ 1 | neither ↦ 0 ]
 
 module _ (M : Machine) where
@@ -97,7 +97,7 @@ module _ (M : Machine) where
   charges cs = sum charge cs
 
   -- "It opens a frame if Decode's rules keep a near call, and closes one if they keep a return."
-  unfoldable pub operation : Cycle M → Operation
+  unfoldable pub operation : Cycle M → FrameOperation
   operation c = keeps c.decode.input c.decode.state
 
   unfoldable pub opened : List (Cycle M) → ℕ

@@ -3,12 +3,12 @@ use Rattle.std.specs.Prelude.{ℕ, ◌*◌, min, Bool, true, false, cond, List, 
 use Rattle.std.proofs.Math.Option.{Option, none, some}
 
 -- Document 01: "the stage reached (ready, fetched, decoded, operands)"
-pub data Stage : Type 0 where
-  ready fetched decoded addressed : Stage
+pub data Reached : Type 0 where
+  ready fetched decoded addressed : Reached
 
 -- what a record's operation does to frames
-pub data Operation : Type 0 where
-  near_call ret neither : Operation
+pub data FrameOperation : Type 0 where
+  near_call ret neither : FrameOperation
 
 -- what a call gives: the number of its refusal, if it is refused, the state that it hands back, and the store as it leaves it
 pub record Outcome (State : Type 0) : Type 0 where
@@ -37,11 +37,11 @@ pub record Machine : Type 1 where
   pub ergs : State → ℕ
   pub lasting : State → Lasting
   pub depth : State → ℕ
-  pub stage : State → Stage
-  pub kept : State → Operation
+  pub stage : State → Reached
+  pub kept : State → FrameOperation
   -- of what decode is given: the plain record's price, and the operation of the record that Decode's rules keep
   pub plain_price : DecodeInput → State → ℕ
-  pub keeps : DecodeInput → State → Operation
+  pub keeps : DecodeInput → State → FrameOperation
   -- of what execute is given: the ergs that Execute's rule for a near call passes
   pub passes : ExecuteInput → State → ℕ
   -- the number of words in a row; of a row's words, the ergs and what lasts of the frame
@@ -57,8 +57,8 @@ module _ (M : Machine) where
   charge_of x s = min (cond (eqb (depth s) 0) 0 (plain_price x s)) (ergs s)
 
   -- the words of row i
-  unfoldable pub row_at : List ℕ → ℕ → List ℕ
-  row_at store i = take row_width (drop (i * row_width) store)
+  unfoldable pub machine_row : List ℕ → ℕ → List ℕ
+  machine_row store i = take row_width (drop (i * row_width) store)
 
   -- the words of the first n rows
   unfoldable pub first_rows : ℕ → List ℕ → List ℕ

@@ -2,12 +2,12 @@
 -- 0, and greater where it is neither.
 use Rattle.std.specs.Prelude.{ℕ, Bool, cond, not, ◌&&◌, ◌==◌}
 use Rattle.u256.specs.declared.U256.{U256}
-use Rattle.u256.specs.U256.{sum_of, difference_of, is_zero}
+use Rattle.u256.specs.U256.{overflowing_sum, overflowing_difference, is_zero}
 use Rattle.records.specs.declared.Flags.{Flags}
 
 -- operation 1 is add
 abbrev pub result_of : ℕ → U256 → U256 → U256 × Bool
-result_of operation a b = cond (operation == 1) (sum_of a b) (difference_of a b)
+result_of operation a b = cond (operation == 1) (overflowing_sum a b) (overflowing_difference a b)
 
 unfoldable pub flags_after : Bool → Flags → U256 × Bool → Flags
 flags_after set old r =

@@ -1,7 +1,7 @@
 -- The sums of a local return. Document 01: "return ok: pubdata sum outside 32 signed bits" (10); "revert counter after it (on ok, as it is) outside 32 signed bits or
 -- below 0" (11); "ergs sum above 4,294,967,295" (12); "a heap bound below the caller's" (13); "Return to label wins over the handler." Revert counts as panicked.
 use Rattle.std.specs.Prelude.{ℕ, ◌+◌, ◌^◌, Bool, true, false, cond, ◌||◌, [], ◌∷◌, ℤ, pos, negsuc, Option, Some, None, ◌==◌, nat_le, nat_lt}
-use Rattle.signed.specs.Signed.{sum_of, difference_of}
+use Rattle.signed.specs.Signed.{checked_sum, checked_difference}
 use Rattle.frame.specs.declared.Frame.{Frame}
 use Rattle.frame.specs.declared.PubdataCost.{PubdataCost}
 use Rattle.records.specs.declared.Record.{Record}
@@ -9,10 +9,10 @@ use Rattle.refusal.specs.Refusal.{first_of, ◌refuses◌}
 
 -- the caller's pubdata afterwards, and the revert counter
 abbrev pub pubdata_after : Bool → ℤ → ℤ → Option ℤ
-pubdata_after ok caller closed = cond ok (sum_of caller closed) (Some caller)
+pubdata_after ok caller closed = cond ok (checked_sum caller closed) (Some caller)
 
 abbrev pub counter_after : Bool → ℤ → ℤ → Option ℤ
-counter_after ok counter closed = cond ok (Some counter) (difference_of counter closed)
+counter_after ok counter closed = cond ok (Some counter) (checked_difference counter closed)
 
 abbrev pub is_outside : Option ℤ → Bool
 is_outside (Some z) = false

@@ -1,15 +1,6 @@
 -- Checks and the number of the first that holds. Assumes nothing.
 use Rattle.std.proofs.Common.{arith, ◌≡◌, ℕ, Bool, true, false, cond, not, ◌&&◌, ◌||◌, T, eqb, List, [], ◌∷◌}
-use Rattle.std.proofs.lemmas.Bool as bool
 use Rattle.refusal.specs.Refusal.{Check, first_of}
-
--- neither of two
-pub or_parts : (a b : Bool) → (a || b) ≡ false → (a ≡ false) × (b ≡ false)
-or_parts a b e = bool.or_parts a b e
-
--- not both of two, and the first
-pub not_both : (a b : Bool) → (a && b) ≡ false → a ≡ true → b ≡ false
-not_both a b e t = grind arith
 
 -- none of the checks holds
 abbrev pub Clear : List Check → Type 0

@@ -2,7 +2,7 @@
 -- so both are read and written by the same two definitions.
 use Rattle.std.specs.Prelude.{ℕ, Bool, false, List, ◌∷◌, get_or, set, drop}
 use Rattle.u256.specs.declared.U256.{U256}
-use Rattle.u256.specs.U256.{one_word}
+use Rattle.u256.specs.U256.{empty_word}
 
 -- the value of register n, and the list with v in register n: number 0 is the empty value, and stays so
 abbrev pub select_of : {A : Type 0} → A → List A → ℕ → A
@@ -10,9 +10,6 @@ select_of empty registers n = get_or (empty ∷ registers) n empty
 
 abbrev pub update_of : {A : Type 0} → A → List A → ℕ → A → List A
 update_of empty registers n v = drop 1 (set (empty ∷ registers) n v)
-
-abbrev pub empty_word : U256
-empty_word = one_word 0
 
 abbrev pub register_of : List U256 → ℕ → U256
 register_of registers n = select_of empty_word registers n

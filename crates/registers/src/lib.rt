@@ -2,23 +2,10 @@
 // and 1,447 where they are written too (docs/SPEED.md, opaque).
 #![tactic(auto)]
 
-ghost use Rattle.std.specs.Prelude.{◌≡◌, cond};
-ghost use Rattle.registers.specs.Registers.{empty_word, select_of, register_of, pointer_of, update_of};
+ghost use Rattle.std.specs.Prelude.{◌≡◌};
+ghost use Rattle.registers.specs.Registers.{select_of, register_of, pointer_of, update_of};
 
 use u256::U256;
-
-pub fn empty_word() -> U256
-    ensures { result ≡ empty_word }
-{
-    U256::default()
-}
-
-// No crate here calls it: it stays since it was promised. Not one function with rules' `either`, which copies a record field by field.
-pub fn either_word(first: bool, a: U256, b: U256) -> U256
-    ensures { result ≡ cond first a b }
-{
-    if first { a } else { b }
-}
 
 fn select_or<T: Copy>(values: [T; 15], n: u8, empty: T) -> T
     ensures { result ≡ select_of empty values n }
@@ -46,7 +33,7 @@ fn select_or<T: Copy>(values: [T; 15], n: u8, empty: T) -> T
 pub fn select(registers: [U256; 15], n: u8) -> U256
     ensures { result ≡ register_of registers n }
 {
-    select_or(registers, n, empty_word())
+    select_or(registers, n, u256::empty_word())
 }
 
 pub fn select_pointer(pointers: [bool; 15], n: u8) -> bool

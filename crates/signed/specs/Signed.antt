@@ -11,11 +11,11 @@ fits_signed w (negsuc n) = ltb n (2 ^ w / 2)
 unfoldable pub checked_of : ℤ → Option ℤ
 checked_of z = cond (fits_signed 32 z) (Some z) None
 
-abbrev pub sum_of : ℤ → ℤ → Option ℤ
-sum_of a b = checked_of (a +ℤ b)
+abbrev pub checked_sum : ℤ → ℤ → Option ℤ
+checked_sum a b = checked_of (a +ℤ b)
 
-abbrev pub difference_of : ℤ → ℤ → Option ℤ
-difference_of a b = checked_of (a -ℤ b)
+abbrev pub checked_difference : ℤ → ℤ → Option ℤ
+checked_difference a b = checked_of (a -ℤ b)
 
 -- the two's complement word of w bits: of z below 0, 2 ^ w + z
 unfoldable pub word_of : ℕ → ℤ → ℕ

@@ -2,18 +2,18 @@
 #![tactic(auto)]
 
 ghost use Rattle.std.specs.Prelude.{◌≡◌};
-ghost use Rattle.signed.specs.Signed.{sum_of, difference_of, word_of, signed_of};
+ghost use Rattle.signed.specs.Signed.{checked_sum, checked_difference, word_of, signed_of};
 
 #[tactic(auto, unfolding(crate::specs::Signed::checked_of))]
 pub fn checked_add(a: i32, b: i32) -> Option<i32>
-    ensures { result ≡ sum_of a b }
+    ensures { result ≡ checked_sum a b }
 {
     a.checked_add(b)
 }
 
 #[tactic(auto, unfolding(crate::specs::Signed::checked_of))]
 pub fn checked_sub(a: i32, b: i32) -> Option<i32>
-    ensures { result ≡ difference_of a b }
+    ensures { result ≡ checked_difference a b }
 {
     a.checked_sub(b)
 }

@@ -1,10 +1,11 @@
 -- What execute changes of the state.
 use Rattle.std.specs.Prelude.{ℕ, false}
 use Rattle.u256.specs.declared.U256.{U256}
+use Rattle.u256.specs.U256.{empty_word}
 use Rattle.frame.specs.declared.Frame.{Frame}
 use Rattle.frame.specs.declared.PubdataCost.{PubdataCost}
 use Rattle.frame.specs.Fields.{with_pc}
-use Rattle.registers.specs.Registers.{empty_word, update_of}
+use Rattle.registers.specs.Registers.{update_of}
 use Rattle.records.specs.declared.Record.{Record}
 use Rattle.records.specs.declared.Flags.{Flags}
 use Rattle.addressing.specs.declared.Location.{Location}

@@ -6,8 +6,7 @@ use Rattle.u256.specs.declared.U256.{U256}
 use Rattle.refusal.specs.Refusal.{Check, first_of, ◌refuses◌}
 use Rattle.records.specs.declared.Settings.{Settings}
 use Rattle.addressing.specs.declared.Location.{Location}
-use Rattle.decoding.specs.Code.{super_pc, sub_pc, code_bits}
-use Rattle.decoding.specs.Code as code
+use Rattle.decoding.specs.Code.{super_pc, sub_pc, code_changed, code_bits}
 use Rattle.addressing.specs.Address.{in_code}
 use Rattle.stages.specs.declared.State.{State}
 use Rattle.stages.specs.declared.Staged.{Staged}
@@ -16,7 +15,7 @@ use Rattle.stages.specs.State.{ready, fetched, is_ended, bad_store, out_of_turn,
 
 abbrev pub code_wanted : State → Bool
 code_wanted s =
-    code.code_wanted (is_ended s) s.current.code_page s.previous_code_memory_page (super_pc s.current.pc) s.previous_super_pc
+    code_changed (is_ended s) s.current.code_page s.previous_code_memory_page (super_pc s.current.pc) s.previous_super_pc
 
 abbrev pub location_if : Bool → ℕ → ℕ → Location
 location_if wanted page index = cond wanted (in_code page index) Location.None

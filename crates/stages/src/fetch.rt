@@ -53,7 +53,7 @@ impl State {
     fn wants_code(self) -> bool
         ensures { result ≡ code_wanted self }
     {
-        fetch::code_wanted(
+        fetch::code_changed(
             self.is_ended(),
             self.current.code_page,
             self.previous_code_memory_page,

@@ -3,10 +3,10 @@
 -- register."
 use Rattle.std.specs.Prelude.{ℕ, ◌*◌, Bool, false, List, None, pos, replicate}
 use Rattle.u256.specs.declared.U256.{U256}
+use Rattle.u256.specs.U256.{empty_word}
 use Rattle.frame.specs.declared.Address.{Address}
 use Rattle.frame.specs.declared.Frame.{Frame}
 use Rattle.frame.specs.Row.{row_width}
-use Rattle.registers.specs.Registers.{empty_word}
 use Rattle.records.specs.declared.Settings.{Settings}
 use Rattle.records.specs.declared.Record.{Record}
 use Rattle.records.specs.declared.Records.{Records}
@@ -41,25 +41,26 @@ far_frame ergs sp = record {
   opening_cycle = 0;
 }
 
--- an instruction, of which all else is 0 or no: operation, return kind, source and destination kind, src0, src1, dst0, imm_0, imm_1, price, set flags
-abbrev pub instruction : ℕ → ℕ → ℕ → ℕ → ℕ → ℕ → ℕ → ℕ → ℕ → ℕ → Bool → Record
-instruction operation kind source destination src0 src1 dst0 imm0 imm1 price flags = record {
+-- an instruction with these: operation, return kind, source kind, src0 and price
+abbrev pub instruction : ℕ → ℕ → ℕ → ℕ → ℕ → Record
+instruction operation kind source src0 price = record {
   operation = operation;
   return_kind = kind;
-  condition = 0;
   source_kind = source;
-  destination_kind = destination;
   src0 = src0;
-  src1 = src1;
-  dst0 = dst0;
-  imm_0 = imm0;
-  imm_1 = imm1;
   price = price;
+  -- the rest 0 or no
+  condition = 0;
+  destination_kind = 0;
+  src1 = 0;
+  dst0 = 0;
+  imm_0 = 0;
+  imm_1 = 0;
   explicit_panic = false;
   kernel_only = false;
   allowed_when_static = false;
   swap = false;
-  set_flags = flags;
+  set_flags = false;
   to_label = false;
   src0_may_be_pointer = false;
   src1_may_be_pointer = false;
@@ -67,7 +68,7 @@ instruction operation kind source destination src0 src1 dst0 imm0 imm1 price fla
 
 -- the masked records: a panic return and a nop
 abbrev pub records_of : Record → Records
-records_of plain = record { plain = plain; panic = instruction 4 2 0 0 0 0 0 0 0 0 false; nop = no_record }
+records_of plain = record { plain = plain; panic = instruction 4 2 0 0 0; nop = no_record }
 
 abbrev pub state_at : ℕ → List U256 → ℕ → ℕ → Record → State
 state_at stage registers ergs sp kept = record {

@@ -21,33 +21,15 @@ pub fn far_frame(ergs: u32, sp: u16) -> Frame
 }
 
 // A record with these fields; the others are 0 or no. The kinds are numbers as in the record, so that one that is refused can be made too.
-pub fn instruction(
-    operation: u8,
-    return_kind: u8,
-    source_kind: u8,
-    destination_kind: u8,
-    src0: u8,
-    src1: u8,
-    dst0: u8,
-    imm_0: u16,
-    imm_1: u16,
-    price: u32,
-    set_flags: bool,
-) -> Record
-    ensures { result ≡ start.instruction operation return_kind source_kind destination_kind src0 src1 dst0 imm_0 imm_1 price set_flags }
+pub fn instruction(operation: u8, return_kind: u8, source_kind: u8, src0: u8, price: u32) -> Record
+    ensures { result ≡ start.instruction operation return_kind source_kind src0 price }
 {
     Record {
         operation,
         return_kind,
         source_kind,
-        destination_kind,
         src0,
-        src1,
-        dst0,
-        imm_0,
-        imm_1,
         price,
-        set_flags,
         ..Record::default()
     }
 }
@@ -56,11 +38,7 @@ pub fn instruction(
 pub fn records_of(plain: Record) -> Records
     ensures { result ≡ start.records_of plain }
 {
-    let panic = Record {
-        operation: Operation::Ret as u8,
-        return_kind: ReturnKind::Panic as u8,
-        ..Record::default()
-    };
+    let panic = instruction(Operation::Ret as u8, ReturnKind::Panic as u8, 0, 0, 0);
     Records {
         plain,
         panic,
@@ -82,7 +60,7 @@ pub fn settings_of(limit: u32, multiplier: u32) -> Settings
 pub fn start_state(ergs: u32, sp: u16) -> State
     ensures { result ≡ start.start_state ergs sp }
 {
-    let none = registers::empty_word();
+    let none = u256::empty_word();
     let current = far_frame(ergs, sp);
     let kept = Kept {
         instruction: Record::default(),

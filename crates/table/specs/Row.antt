@@ -23,5 +23,5 @@ row_text r =
 abbrev pub bad_line : ℕ → List ℕ
 bad_line n = bytes_of "bad line " ++ field n 10
 
-abbrev pub refused_with : ℕ → List ℕ
-refused_with number = bytes_of "refused " ++ field number 10
+abbrev pub refused_line : ℕ → List ℕ
+refused_line number = bytes_of "refused " ++ field number 10

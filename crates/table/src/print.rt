@@ -1,7 +1,7 @@
 // What the listing prints.
 ghost use Rattle.text.specs.Bytes.{Wrote, bytes_of};
 ghost use Rattle.std.specs.Prelude.{◌++◌};
-ghost use Rattle.table.specs.Row.{field, row_text, bad_line, refused_with};
+ghost use Rattle.table.specs.Row.{field, row_text, bad_line, refused_line};
 
 use crate::Row;
 use text::Writer;
@@ -44,7 +44,7 @@ pub fn put_bad_line(writer: &mut Writer<'_>, n: u64)
 
 // Any number may be given, as it was: a `Refusal` would ask callers for one of the fifteen.
 pub fn put_refused(writer: &mut Writer<'_>, number: u32)
-    ensures { Wrote writer.old (refused_with number) writer.new }
+    ensures { Wrote writer.old (refused_line number) writer.new }
 {
     put_labelled(writer, b"refused ", u64::from(number));
 }

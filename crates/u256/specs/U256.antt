@@ -20,13 +20,17 @@ words_of n = record {
 abbrev pub one_word : ℕ → U256
 one_word n = record { w0 = n; w1 = 0; w2 = 0; w3 = 0 }
 
+-- 0: what a register that was not written holds, and register 0 always
+abbrev pub empty_word : U256
+empty_word = one_word 0
+
 -- (a + b) modulo 2 ^ 256, and whether the sum reaches 2 ^ 256
-unfoldable pub sum_of : U256 → U256 → U256 × Bool
-sum_of a b = (words_of (wrapping_sum 256 (value_of a) (value_of b)), sum_overflows 256 (value_of a) (value_of b))
+unfoldable pub overflowing_sum : U256 → U256 → U256 × Bool
+overflowing_sum a b = (words_of (wrapping_sum 256 (value_of a) (value_of b)), sum_overflows 256 (value_of a) (value_of b))
 
 -- (a - b) modulo 2 ^ 256, and whether the difference is below 0
-unfoldable pub difference_of : U256 → U256 → U256 × Bool
-difference_of a b = (words_of (wrapping_difference 256 (value_of a) (value_of b)), difference_overflows (value_of a) (value_of b))
+unfoldable pub overflowing_difference : U256 → U256 → U256 × Bool
+overflowing_difference a b = (words_of (wrapping_difference 256 (value_of a) (value_of b)), difference_overflows (value_of a) (value_of b))
 
 -- the number is 0
 unfoldable pub is_zero : U256 → Bool

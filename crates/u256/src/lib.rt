@@ -1,8 +1,8 @@
 // 256-bit values: sum, difference, the test for zero, the lowest bits, and a 64-bit number as one.
 #![tactic(auto)]
 
-ghost use Rattle.std.specs.Prelude.{◌≡◌};
-ghost use Rattle.u256.specs.U256.{sum_of, difference_of, is_zero, low_of, one_word};
+ghost use Rattle.std.specs.Prelude.{◌≡◌, cond};
+ghost use Rattle.u256.specs.U256.{overflowing_sum, overflowing_difference, is_zero, low_of, one_word, empty_word};
 
 // Four 64-bit words, the lowest first.
 #[derive(Clone, Copy, Debug, Default, PartialEq, Eq)]
@@ -15,9 +15,9 @@ pub struct U256 {
 
 impl U256 {
     // Sum and difference are alike but for the step of a word: the step as a closure would have to be given with its contract, and is no plainer.
-    #[tactic(auto, unfolding(crate::specs::U256::sum_of))]
+    #[tactic(auto, unfolding(crate::specs::U256::overflowing_sum))]
     pub fn overflowing_add(self, other: U256) -> (U256, bool)
-        ensures { result ≡ sum_of self other }
+        ensures { result ≡ overflowing_sum self other }
     {
         let (w0, carry) = self.w0.carrying_add(other.w0, false);
         let (w1, carry) = self.w1.carrying_add(other.w1, carry);
@@ -26,9 +26,9 @@ impl U256 {
         (U256 { w0, w1, w2, w3 }, overflow)
     }
 
-    #[tactic(auto, unfolding(crate::specs::U256::difference_of))]
+    #[tactic(auto, unfolding(crate::specs::U256::overflowing_difference))]
     pub fn overflowing_sub(self, other: U256) -> (U256, bool)
-        ensures { result ≡ difference_of self other }
+        ensures { result ≡ overflowing_difference self other }
     {
         let (w0, borrow) = self.w0.borrowing_sub(other.w0, false);
         let (w1, borrow) = self.w1.borrowing_sub(other.w1, borrow);
@@ -59,13 +59,6 @@ impl U256 {
     {
         (self.w0 % 0x1_0000_0000) as u32
     }
-
-    #[tactic(auto, unfolding(crate::specs::U256::low_of))]
-    pub fn low_u64(self) -> u64
-        ensures { result ≡ low_of 64 self }
-    {
-        self.w0
-    }
 }
 
 impl From<u64> for U256 {
@@ -79,4 +72,17 @@ impl From<u64> for U256 {
             w3: 0,
         }
     }
+}
+
+pub fn empty_word() -> U256
+    ensures { result ≡ empty_word }
+{
+    U256::default()
+}
+
+// No crate here calls it: it stays since it was promised. Not one function with decoding's `either`, which copies a record field by field.
+pub fn either_word(first: bool, a: U256, b: U256) -> U256
+    ensures { result ≡ cond first a b }
+{
+    if first { a } else { b }
 }

@@ -1,5 +1,5 @@
 use Rattle.std.proofs.Common.{◌≡◌, ◌*◌, ◌-◌, ◌∙◌, ◌⊎◌, suc, ap, length, drop, arith}
-use Rattle.frame.specs.Row.{word, row_width}
+use Rattle.frame.specs.Row.{row_word, row_width}
 use Rattle.frame.specs.Store.{row_at}
 use Rattle.frame.proofs.StoreLaws as laws
 use Rattle.frame.proofs.saved_ergs.Goals as goal
@@ -14,7 +14,7 @@ loop-row-preserved c =
     let next =
     laws.next_chunk store i c.loop-row.row-iterator.iter.rest.now c.in-Some.row.now c.next.new.self.iter.rest.now before.rest steps.0.1.0
     (rw (← before.size) steps.0.1.1) in
-    let ergs : c.from-sum.result ≡ word (row_at store i) 20 = c.from-sum.ensures ∙ c.row_ergs.ensures ∙ ap (λ (row : _). word row 20) next.0 in
+    let ergs : c.from-sum.result ≡ row_word (row_at store i) 20 = c.from-sum.ensures ∙ c.row_ergs.ensures ∙ ap (λ (row : _). row_word row 20) next.0 in
     record {
       size = steps.0.0 ∙ before.size;
       left = omega (arith, steps.1, before.left);
