@@ -10,7 +10,12 @@ use Rattle.bench_lines.specs.Line.{line_width, line_records, want_of, word_at}
 
 -- the input of a line's cycle
 unfoldable pub opaque_input : List ℕ → U256 → U256 → ℕ → Input
-opaque_input line code source limit = record { code = code; source = source; settings = settings_of limit 1; records = line_records line; pointer = false }
+opaque_input line code source limit = record {
+  code = code;
+  execute = record { word = source; pointer = false };
+  settings = settings_of limit 1;
+  records = line_records line;
+}
 
 -- what a line's cycle is given, with its want in register 1
 unfoldable pub opaque_step : U256 → U256 → ℕ → List ℕ → State → List ℕ → CycleGiven

@@ -7,7 +7,7 @@ ghost use Rattle.bench_opaque.specs.Opaque.{opaque_step, opaque_run};
 
 use bench_lines::{Benchmark, CycleOutcome, LINE};
 use cycle::Input;
-use stages::State;
+use stages::{ExecuteInput, State};
 use u256::U256;
 
 #[derive(Clone, Copy)]
@@ -25,10 +25,12 @@ impl Benchmark<u64, LINE> for Opaque {
     fn step(&self, state: State, line: &[u64; LINE], store: &mut [u32]) -> CycleOutcome {
         let input = Input {
             code: self.code,
-            source: self.source,
+            execute: ExecuteInput {
+                word: self.source,
+                pointer: false,
+            },
             settings: start::settings_of(self.limit, 1),
             records: bench_lines::records_of(line),
-            pointer: false,
         };
         let given = line_cycle::requested(state, bench_lines::want_of(line));
         CycleOutcome::from(cycle::cycle(given, input, store))

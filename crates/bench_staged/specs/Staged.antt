@@ -16,7 +16,12 @@ use Rattle.bench_staged.specs.Memory.{memory_word, source_told}
 
 -- what a cycle is given up to operands, with a source word
 abbrev pub input_with : Settings → Records → List ℕ → State → U256 → Input
-input_with settings records words s source = record { code = memory_word words (query_of s); source = source; settings = settings; records = records; pointer = false }
+input_with settings records words s source = record {
+  code = memory_word words (query_of s);
+  execute = record { word = source; pointer = false };
+  settings = settings;
+  records = records;
+}
 
 -- what a cycle is given: operands, which is given no source word, says where that is
 unfoldable pub staged_input : Settings → Records → List ℕ → State → List ℕ → Input

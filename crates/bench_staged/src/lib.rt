@@ -11,9 +11,9 @@ mod memory;
 use bench_lines::{Benchmark, CycleOutcome, LINE};
 use records::{Records, Settings};
 use refusal::Refusal;
-use stages::State;
+use stages::{ExecuteInput, State};
 
-// Not by stepper's `refused_at`: each call would name a stage, which the outcome leaves out.
+// Not by cycle's `refused_at`: each call would name a stage, which the outcome leaves out.
 fn refused(state: State, refusal: Refusal) -> CycleOutcome
     ensures { result ≡ record { state = state; charge = Err refusal } }
 {
@@ -51,8 +51,11 @@ fn cycle_by_stages(
         Ok(answer) => answer.source,
         Err(refusal) => return refused(addressed.state, refusal),
     };
-    let source = memory::read(words, location);
-    let executed = addressed.state.execute(settings, store, source, false);
+    let input = ExecuteInput {
+        word: memory::read(words, location),
+        pointer: false,
+    };
+    let executed = addressed.state.execute(settings, store, input);
     if let Err(refusal) = executed.answer {
         return refused(executed.state, refusal);
     }

@@ -13,7 +13,7 @@ use Rattle.u256.specs.U256.{empty_word, low_of}
 use Rattle.frame.specs.Fields.{with_ergs, with_sp, with_pc}
 use Rattle.frame.specs.Kernel.{kernel_mode}
 use Rattle.frame.specs.Row.{row_of, frame_of}
-use Rattle.frame.specs.Store.{saved_store, read_of, saved_ergs}
+use Rattle.frame.specs.Store.{saved_store, saved_ergs}
 use Rattle.signed.specs.Signed.{checked_of, word_of, signed_of}
 use Rattle.u256.specs.U256.{one_word, overflowing_sum, overflowing_difference, is_zero}
 use Rattle.decoding.specs.Code.{code_bits}
@@ -29,10 +29,10 @@ use Rattle.stages.specs.Effects.{finished_state, moved_state, written_state, swi
 use Rattle.stages.specs.Fetch.{fetched_state, fetch_done, fetch_of}
 use Rattle.stages.specs.Decode.{decoded_state, decode_done, decode_of}
 use Rattle.stages.specs.Operands.{addressed_state, operands_done, operands_of}
-use Rattle.stages.specs.Helpers.{nop_done, nop_of}
-use Rattle.stages.specs.NearCall.{near_call_done, near_call_of, near_call_store}
-use Rattle.stages.specs.Arithmetic.{arithmetic_done, arithmetic_of}
-use Rattle.stages.specs.Ret.{close_done, close_of, return_of}
+use Rattle.stages.specs.Helpers.{nop_done}
+use Rattle.stages.specs.NearCall.{near_call_done}
+use Rattle.stages.specs.Arithmetic.{arithmetic_done}
+use Rattle.stages.specs.Ret.{close_done}
 use Rattle.stages.specs.Execute.{execute_done, execute_of, execute_store}
 use Rattle.lists.specs.Machine.{Outcome, near_call, charge_of}
 use Rattle.lists.specs.Lists.{Call, fetch, decode, operands, execute, Called, called, trace, finished_of, Cycle, events_of, charge, charges, operation, opened, closed, sum, before, result, outcome_of, InTurn}
@@ -50,7 +50,7 @@ line operation kind price want =
     ∷ operands (settings_of 0 1)
     ∷ operands (settings_of 4 1)
     ∷ fetch (record { settings = settings_of 4 1; word = one_word 7 })
-    ∷ execute (record { settings = settings_of 4 1; word = one_word want; pointer = false })
+    ∷ execute (record { settings = settings_of 4 1; input = record { word = one_word want; pointer = false } })
     ∷ []
 
 abbrev pub listing : List (Call core)
@@ -77,7 +77,7 @@ pub figures : joined (map figure (finished_of core (trace core listing start (em
     ≡ (6 ∷ 1 ∷ 994 ∷ 994 ∷ [])
     ++ ((25 ∷ 2 ∷ 300 ∷ 969 ∷ [])
     ++ ((6 ∷ 2 ∷ 294 ∷ 963 ∷ []) ++ ((5 ∷ 1 ∷ 958 ∷ 958 ∷ []) ++ ((25 ∷ 2 ∷ 933 ∷ 933 ∷ []) ++ (5 ∷ 1 ∷ 928 ∷ 928 ∷ [])))))
-unfolding finished_of trace charge_of with_ergs with_sp with_pc kernel_mode read_of low_of checked_of word_of signed_of overflowing_sum overflowing_difference is_zero code_bits bad_records error_flags source_at destination_at places_of sources_of caller_of opened_of resumed_with resumed_of saved_store flags_after finished_state moved_state written_state switched_state fetched_state fetch_done fetch_of decoded_state decode_done decode_of addressed_state operands_done operands_of nop_done nop_of near_call_done near_call_of near_call_store arithmetic_done arithmetic_of close_done close_of return_of execute_done execute_of execute_store
+unfolding finished_of trace charge_of with_ergs with_sp with_pc kernel_mode low_of checked_of word_of signed_of overflowing_sum overflowing_difference is_zero code_bits bad_records error_flags source_at destination_at places_of sources_of caller_of opened_of resumed_with resumed_of saved_store flags_after finished_state moved_state written_state switched_state fetched_state fetch_done fetch_of decoded_state decode_done decode_of addressed_state operands_done operands_of nop_done near_call_done arithmetic_done close_done execute_done execute_of execute_store
 figures = refl
 
 -- ---- the first near call, from its own cycle to the one that closes its frame: the premises of the claim hold, and so does what it says
@@ -99,7 +99,7 @@ cycle_of earlier operation kind price want = record {
     store = (at 1).store;
   };
   operands = record { input = settings_of 4 1; state = (at 3).state; store = (at 3).store };
-  execute = record { input = record { settings = settings_of 4 1; word = one_word want; pointer = false }; state = (at 5).state; store = (at 5).store };
+  execute = record { input = record { settings = settings_of 4 1; input = record { word = one_word want; pointer = false } }; state = (at 5).state; store = (at 5).store };
 }
   where
     at : ℕ → Outcome State
@@ -118,15 +118,15 @@ abbrev pub calling : List (Cycle core)
 calling = span core call (add ∷ []) close
 
 in_turn : InTurn core listing start (empty_store 4) calling
-unfolding events_of finished_of trace charge_of with_ergs with_sp with_pc kernel_mode read_of low_of checked_of word_of signed_of overflowing_sum overflowing_difference is_zero code_bits bad_records error_flags source_at destination_at places_of sources_of caller_of opened_of resumed_with resumed_of saved_store flags_after finished_state moved_state written_state switched_state fetched_state fetch_done fetch_of decoded_state decode_done decode_of addressed_state operands_done operands_of nop_done nop_of near_call_done near_call_of near_call_store arithmetic_done arithmetic_of close_done close_of return_of execute_done execute_of execute_store
+unfolding events_of finished_of trace charge_of with_ergs with_sp with_pc kernel_mode low_of checked_of word_of signed_of overflowing_sum overflowing_difference is_zero code_bits bad_records error_flags source_at destination_at places_of sources_of caller_of opened_of resumed_with resumed_of saved_store flags_after finished_state moved_state written_state switched_state fetched_state fetch_done fetch_of decoded_state decode_done decode_of addressed_state operands_done operands_of nop_done near_call_done arithmetic_done close_done execute_done execute_of execute_store
 in_turn = record { earlier = take 4 events; later = drop 16 events; found = refl }
 
 opens_frame : operation core call ≡ near_call
-unfolding operation finished_of trace charge_of with_ergs with_sp with_pc kernel_mode read_of low_of checked_of word_of signed_of overflowing_sum overflowing_difference is_zero code_bits bad_records error_flags source_at destination_at places_of sources_of caller_of opened_of resumed_with resumed_of saved_store flags_after finished_state moved_state written_state switched_state fetched_state fetch_done fetch_of decoded_state decode_done decode_of addressed_state operands_done operands_of nop_done nop_of near_call_done near_call_of near_call_store arithmetic_done arithmetic_of close_done close_of return_of execute_done execute_of execute_store
+unfolding operation finished_of trace charge_of with_ergs with_sp with_pc kernel_mode low_of checked_of word_of signed_of overflowing_sum overflowing_difference is_zero code_bits bad_records error_flags source_at destination_at places_of sources_of caller_of opened_of resumed_with resumed_of saved_store flags_after finished_state moved_state written_state switched_state fetched_state fetch_done fetch_of decoded_state decode_done decode_of addressed_state operands_done operands_of nop_done near_call_done arithmetic_done close_done execute_done execute_of execute_store
 opens_frame = refl
 
 closes_last : ClosesWithLast core calling
-unfolding operation opened closed sum finished_of trace charge_of with_ergs with_sp with_pc kernel_mode read_of low_of checked_of word_of signed_of overflowing_sum overflowing_difference is_zero code_bits bad_records error_flags source_at destination_at places_of sources_of caller_of opened_of resumed_with resumed_of saved_store flags_after finished_state moved_state written_state switched_state fetched_state fetch_done fetch_of decoded_state decode_done decode_of addressed_state operands_done operands_of nop_done nop_of near_call_done near_call_of near_call_store arithmetic_done arithmetic_of close_done close_of return_of execute_done execute_of execute_store
+unfolding operation opened closed sum finished_of trace charge_of with_ergs with_sp with_pc kernel_mode low_of checked_of word_of signed_of overflowing_sum overflowing_difference is_zero code_bits bad_records error_flags source_at destination_at places_of sources_of caller_of opened_of resumed_with resumed_of saved_store flags_after finished_state moved_state written_state switched_state fetched_state fetch_done fetch_of decoded_state decode_done decode_of addressed_state operands_done operands_of nop_done near_call_done arithmetic_done close_done execute_done execute_of execute_store
 closes_last = record { as_many = refl; not_before = before_last }
   where
     some : ◌≡◌ {A = ℕ} 1 0 → ⊥
@@ -146,14 +146,14 @@ resumes = callers_resume core laws listing start (empty_store 4) call (add ∷ [
 
 -- 994 before the call, 958 after the close, and 25 + 6 + 5 charged between
 pub resumed_figures : (core.ergs (before core call) ≡ 994) × (core.ergs (result core close).state ≡ 958) × (charges core calling ≡ 36)
-unfolding charge charges sum finished_of trace charge_of with_ergs with_sp with_pc kernel_mode read_of low_of checked_of word_of signed_of overflowing_sum overflowing_difference is_zero code_bits bad_records error_flags source_at destination_at places_of sources_of caller_of opened_of resumed_with resumed_of saved_store flags_after finished_state moved_state written_state switched_state fetched_state fetch_done fetch_of decoded_state decode_done decode_of addressed_state operands_done operands_of nop_done nop_of near_call_done near_call_of near_call_store arithmetic_done arithmetic_of close_done close_of return_of execute_done execute_of execute_store
+unfolding charge charges sum finished_of trace charge_of with_ergs with_sp with_pc kernel_mode low_of checked_of word_of signed_of overflowing_sum overflowing_difference is_zero code_bits bad_records error_flags source_at destination_at places_of sources_of caller_of opened_of resumed_with resumed_of saved_store flags_after finished_state moved_state written_state switched_state fetched_state fetch_done fetch_of decoded_state decode_done decode_of addressed_state operands_done operands_of nop_done near_call_done arithmetic_done close_done execute_done execute_of execute_store
 resumed_figures = (refl, refl, refl)
 
 -- the called frame has the counter before the call's cycle, the second; its caller, current where the listing starts, has its 0 before and after
 pub opening_figures : ((result core call).state.current.opening_cycle ≡ 1)
     × ((before core call).current.opening_cycle ≡ 0)
     × ((result core close).state.current.opening_cycle ≡ 0)
-unfolding charge charges sum finished_of trace charge_of with_ergs with_sp with_pc kernel_mode read_of low_of checked_of word_of signed_of overflowing_sum overflowing_difference is_zero code_bits bad_records error_flags source_at destination_at places_of sources_of caller_of opened_of resumed_with resumed_of saved_store flags_after finished_state moved_state written_state switched_state fetched_state fetch_done fetch_of decoded_state decode_done decode_of addressed_state operands_done operands_of nop_done nop_of near_call_done near_call_of near_call_store arithmetic_done arithmetic_of close_done close_of return_of execute_done execute_of execute_store
+unfolding charge charges sum finished_of trace charge_of with_ergs with_sp with_pc kernel_mode low_of checked_of word_of signed_of overflowing_sum overflowing_difference is_zero code_bits bad_records error_flags source_at destination_at places_of sources_of caller_of opened_of resumed_with resumed_of saved_store flags_after finished_state moved_state written_state switched_state fetched_state fetch_done fetch_of decoded_state decode_done decode_of addressed_state operands_done operands_of nop_done near_call_done arithmetic_done close_done execute_done execute_of execute_store
 opening_figures = (refl, refl, refl)
 
 -- ---- what lasts of a frame, on one whose words all differ: all but sp, pc, ergs, the two heap bounds and pubdata

@@ -9,7 +9,7 @@ use native.Mathlib.Nat.{lt_irrefl}
 use lib.ListN.{get_or, take}
 use Rattle.frame.specs.Fields.{with_ergs, with_sp, with_pc}
 use Rattle.frame.specs.Kernel.{kernel_mode}
-use Rattle.frame.specs.Store.{saved_store, read_of}
+use Rattle.frame.specs.Store.{saved_store}
 use Rattle.signed.specs.Signed.{checked_of, word_of, signed_of}
 use Rattle.u256.specs.U256.{low_of, overflowing_sum, overflowing_difference, is_zero}
 use Rattle.decoding.specs.Code.{code_bits}
@@ -24,10 +24,10 @@ use Rattle.stages.specs.Effects.{finished_state, moved_state, written_state, swi
 use Rattle.stages.specs.Fetch.{fetched_state, fetch_done, fetch_of}
 use Rattle.stages.specs.Decode.{decoded_state, decode_done, decode_of}
 use Rattle.stages.specs.Operands.{addressed_state, operands_done, operands_of}
-use Rattle.stages.specs.Helpers.{nop_done, nop_of}
-use Rattle.stages.specs.NearCall.{near_call_done, near_call_of, near_call_store}
-use Rattle.stages.specs.Arithmetic.{arithmetic_done, arithmetic_of}
-use Rattle.stages.specs.Ret.{close_done, close_of, return_of}
+use Rattle.stages.specs.Helpers.{nop_done}
+use Rattle.stages.specs.NearCall.{near_call_done}
+use Rattle.stages.specs.Arithmetic.{arithmetic_done}
+use Rattle.stages.specs.Ret.{close_done}
 use Rattle.stages.specs.Execute.{execute_done, execute_of, execute_store}
 use Rattle.lists.specs.Machine.{FrameOperation, near_call, ret, neither, charge_of}
 use Rattle.lists.specs.Lists.{Call, trace, finished_of, Cycle, events_of, charge, charges, operation, opened, closed, sum, before, result, share, InTurn}
@@ -70,7 +70,7 @@ pub figures : (finished_of core (trace core calls start (empty_store 4)) ≡ eve
     × (core.ergs (result core last).state ≡ 845)
     × (share core outer ≡ 675)
     × (core.passes outer.execute.input outer.execute.state ≡ 300)
-unfolding events_of operation opened closed sum charge charges share finished_of trace charge_of with_ergs with_sp with_pc kernel_mode read_of low_of checked_of word_of signed_of overflowing_sum overflowing_difference is_zero code_bits bad_records error_flags source_at destination_at places_of sources_of caller_of opened_of resumed_with resumed_of saved_store flags_after finished_state moved_state written_state switched_state fetched_state fetch_done fetch_of decoded_state decode_done decode_of addressed_state operands_done operands_of nop_done nop_of near_call_done near_call_of near_call_store arithmetic_done arithmetic_of close_done close_of return_of execute_done execute_of execute_store
+unfolding events_of operation opened closed sum charge charges share finished_of trace charge_of with_ergs with_sp with_pc kernel_mode low_of checked_of word_of signed_of overflowing_sum overflowing_difference is_zero code_bits bad_records error_flags source_at destination_at places_of sources_of caller_of opened_of resumed_with resumed_of saved_store flags_after finished_state moved_state written_state switched_state fetched_state fetch_done fetch_of decoded_state decode_done decode_of addressed_state operands_done operands_of nop_done near_call_done arithmetic_done close_done execute_done execute_of execute_store
 figures = (refl, refl, refl, refl, refl, refl, refl, refl, refl, refl)
 
 in_turn : InTurn core calls start (empty_store 4) cycles

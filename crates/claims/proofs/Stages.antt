@@ -10,13 +10,14 @@ use borrow.Author.Tests.{eqb-true, not-false}
 use Rattle.frame.specs.Fields.{with_ergs, with_sp}
 use Rattle.records.specs.declared.Settings.{Settings}
 use Rattle.stages.specs.declared.State.{State}
-use Rattle.stages.specs.Fetch.{fetch_checks, fetched_state, fetch_done, fetch_of}
-use Rattle.stages.specs.Decode.{decode_checks, decoded_state, decode_done, decode_of}
-use Rattle.stages.specs.Operands.{operands_checks, addressed_state, operands_done, operands_of}
+use Rattle.stages.specs.Checks.{fetch_checks, decode_checks, operands_checks}
+use Rattle.stages.specs.Fetch.{fetched_state, fetch_done, fetch_of}
+use Rattle.stages.specs.Decode.{decoded_state, decode_done, decode_of}
+use Rattle.stages.specs.Operands.{addressed_state, operands_done, operands_of}
 use Rattle.lists.specs.Machine.{charge_of}
 use Rattle.lists.specs.Lists.{fetch, decode, operands}
 use Rattle.lists.specs.Laws.{Advances, Spends}
-use Rattle.claims.specs.Core.{core, FetchInput, DecodeInput, fetch_outcome, decode_outcome, operands_outcome, stage_of, lasting_of}
+use Rattle.claims.specs.Core.{core, CoreFetch, CoreDecode, fetch_outcome, decode_outcome, operands_outcome, stage_of, lasting_of}
 use Rattle.claims.specs.Answers.{fetch_numbers, decode_numbers, operands_numbers}
 use Rattle.claims.proofs.Views.{View, by_checks}
 
@@ -24,7 +25,7 @@ use Rattle.claims.proofs.Views.{View, by_checks}
 pub turn : (n stage : ℕ) → not (eqb n stage) ≡ false → stage_of n ≡ stage_of stage
 turn n stage e = ap stage_of (eqb-true n stage (not-false (eqb n stage) e))
 
-pub fetch_view : (x : FetchInput) (s : State) (store : List ℕ)
+pub fetch_view : (x : CoreFetch) (s : State) (store : List ℕ)
     → View fetch_numbers s store (fetch_outcome x s store) (Advances core (fetch x) s (fetch_outcome x s store) × Spends core 0 s store (fetch_outcome x s store))
 unfolding fetch_of fetch_done fetched_state
 fetch_view x s store =
@@ -39,7 +40,7 @@ fetch_view x s store =
 charged : (held price : ℕ) → held - price + min price held ≡ held
 charged held price = omega arith
 
-pub decode_view : (x : DecodeInput) (s : State) (store : List ℕ)
+pub decode_view : (x : CoreDecode) (s : State) (store : List ℕ)
     → View decode_numbers s store (decode_outcome x s store)
     (Advances core (decode x) s (decode_outcome x s store)
     × Spends core (charge_of core x s) s store (decode_outcome x s store)

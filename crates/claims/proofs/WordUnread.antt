@@ -21,9 +21,11 @@ use Rattle.addressing.specs.Address.{source_read, source_at, places_of}
 use Rattle.addressing.specs.Sources.{register_value, sources_of}
 use Rattle.refusal.proofs.RefusalLaws.{clear}
 use Rattle.stages.specs.declared.State.{State}
-use Rattle.stages.specs.State.{refused_with}
-use Rattle.stages.specs.Operands.{record_of, stack_page, places_in, operands_checks, operands_refusal, addressed_state, operands_done, operands_of}
-use Rattle.stages.specs.Execute.{sources_in, execute_done, execute_of, execute_store}
+use Rattle.stages.specs.declared.ExecuteInput.{ExecuteInput}
+use Rattle.stages.specs.State.{record_of, refused_with}
+use Rattle.stages.specs.Checks.{sources_in, operands_checks}
+use Rattle.stages.specs.Operands.{stack_page, places_in, operands_refusal, addressed_state, operands_done, operands_of}
+use Rattle.stages.specs.Execute.{execute_done, execute_of, execute_store}
 use Rattle.claims.specs.SourceWord.{ExecutesAlike, WordUnread}
 use Rattle.claims.proofs.Views.{by_number}
 
@@ -52,11 +54,11 @@ sources_same r words pointers w stack code sp word other pointer bit good e =
     pair : PrimitiveValue → Sources
     pair v = cond r.swap (record { src0 = register_value words pointers r.src1; src1 = v }) (record { src0 = v; src1 = register_value words pointers r.src1 })
 
--- execute looks at the word as an operand alone
-alike : (settings : Settings) (s : State) (store : List ℕ) (word other : U256) (pointer bit : Bool) → sources_in word pointer s ≡ sources_in other bit s
-    → ExecutesAlike settings s store word other pointer bit
+-- execute looks at its input for the operands alone
+alike : (settings : Settings) (s : State) (store : List ℕ) (given other : ExecuteInput) → sources_in given s ≡ sources_in other s
+    → ExecutesAlike settings s store given other
 unfolding execute_of execute_done execute_store
-alike settings s store word other pointer bit e = record { result_same = rw e; store_same = rw e }
+alike settings s store given other e = record { result_same = rw e; store_same = rw e }
 
 -- the source that operands told
 abbrev told : Result OperandsAnswer Refusal → Location
@@ -65,14 +67,14 @@ told (Err refusal) = Location.None
 
 pub word_unread : WordUnread
 unfolding operands_of operands_done addressed_state
-word_unread settings s store destination given later after word other pointer bit =
-    by_number (λ r. r.answer ≡ Ok (record { source = Location.None; destination = destination }) → ExecutesAlike later r.state after word other pointer bit)
+word_unread settings s store destination told_none later after given other =
+    by_number (λ r. r.answer ≡ Ok (record { source = Location.None; destination = destination }) → ExecutesAlike later r.state after given other)
     (operands_refusal settings s store) (refused_with s) (operands_done 16 s)
     (λ z e.
     let c = clear (operands_checks settings s store) tt z in
     let none : (places_in 16 s).source ≡ Location.None = ap told e in
-    alike later (operands_done 16 s).state after word other pointer bit
-    (sources_same (record_of s) s.registers s.pointers 16 (stack_page s) s.current.code_page s.current.sp word other pointer bit
+    alike later (operands_done 16 s).state after given other
+    (sources_same (record_of s) s.registers s.pointers 16 (stack_page s) s.current.code_page s.current.sp given.word other.word given.pointer other.pointer
     (not-false (good_record (record_of s)) c.1.1.0) none))
     (λ h e. absurd (cc))
-    given
+    told_none

@@ -1,5 +1,5 @@
 -- The cycle core as a machine of four stages, for the claims about lists of stage calls: which field is meant by each of its parts.
-use Rattle.std.specs.Prelude.{ℕ, Bool, cond, List, Result, Ok, Err, eqb, pos}
+use Rattle.std.specs.Prelude.{ℕ, cond, List, Result, Ok, Err, eqb, pos}
 use Rattle.std.proofs.Math.Option.{Option, none, some}
 use Rattle.u256.specs.declared.U256.{U256}
 use Rattle.refusal.specs.declared.Refusal.{Refusal}
@@ -7,9 +7,13 @@ use Rattle.refusal.specs.Refusal.{paper_number}
 use Rattle.frame.specs.declared.Frame.{Frame}
 use Rattle.frame.specs.Row.{row_width, frame_of}
 use Rattle.records.specs.declared.Settings.{Settings}
+use Rattle.records.specs.declared.Record.{Record}
 use Rattle.records.specs.declared.Records.{Records}
+use Rattle.records.specs.Record.{is_near_call, is_return}
 use Rattle.stages.specs.declared.State.{State}
 use Rattle.stages.specs.declared.Staged.{Staged}
+use Rattle.stages.specs.declared.ExecuteInput.{ExecuteInput}
+use Rattle.stages.specs.State.{ready, fetched, decoded, record_of}
 use Rattle.stages.specs.Fetch.{fetch_of}
 use Rattle.stages.specs.Decode.{decode_of, kept_of}
 use Rattle.stages.specs.Operands.{operands_of}
@@ -23,65 +27,64 @@ refused_by (Ok answer) = none
 refused_by (Err refusal) = some (paper_number refusal)
 
 -- what each stage is given besides the state and the store
-pub record FetchInput : Type 0 where
+pub record CoreFetch : Type 0 where
   pub settings : Settings
   pub word : U256
 
-pub record DecodeInput : Type 0 where
+pub record CoreDecode : Type 0 where
   pub settings : Settings
   pub records : Records
 
-pub record ExecuteInput : Type 0 where
+pub record CoreExecute : Type 0 where
   pub settings : Settings
-  pub word : U256
-  pub pointer : Bool
+  pub input : ExecuteInput
 
 -- what a stage gives, with the store after it
 abbrev pub outcome_in : {A : Type 0} → Staged A → List ℕ → machines.Outcome State
 outcome_in r after = record { refusal = refused_by r.answer; state = r.state; store = after }
 
 -- fetch, decode and operands leave the store as it is
-abbrev pub fetch_outcome : FetchInput → State → List ℕ → machines.Outcome State
+abbrev pub fetch_outcome : CoreFetch → State → List ℕ → machines.Outcome State
 fetch_outcome x s store = outcome_in (fetch_of x.settings x.word s store) store
 
-abbrev pub decode_outcome : DecodeInput → State → List ℕ → machines.Outcome State
+abbrev pub decode_outcome : CoreDecode → State → List ℕ → machines.Outcome State
 decode_outcome x s store = outcome_in (decode_of x.settings x.records s store) store
 
 abbrev pub operands_outcome : Settings → State → List ℕ → machines.Outcome State
-operands_outcome settings s store = outcome_in (operands_of settings s store) store
+operands_outcome settings s store = outcome_in (operands_of 16 settings s store) store
 
-abbrev pub execute_outcome : ExecuteInput → State → List ℕ → machines.Outcome State
-execute_outcome x s store = outcome_in (execute_of x.settings x.word x.pointer s store) (execute_store x.settings x.word x.pointer s store)
+abbrev pub execute_outcome : CoreExecute → State → List ℕ → machines.Outcome State
+execute_outcome x s store = outcome_in (execute_of 16 x.settings x.input s store) (execute_store 16 x.settings x.input s store)
 
--- stages 0 to 3; at any other number every call is refused
+-- at a number that is no stage's every call is refused
 abbrev pub stage_of : ℕ → machines.Reached
-stage_of n = cond (eqb n 0) machines.ready (cond (eqb n 1) machines.fetched (cond (eqb n 2) machines.decoded machines.addressed))
+stage_of n = cond (eqb n ready) machines.ready (cond (eqb n fetched) machines.fetched (cond (eqb n decoded) machines.decoded machines.addressed))
 
--- operation 3 is near call, 4 return
-abbrev pub operation_of : ℕ → machines.FrameOperation
-operation_of n = cond (eqb n 3) machines.near_call (cond (eqb n 4) machines.ret machines.neither)
+abbrev pub operation_of : Record → machines.FrameOperation
+operation_of r = cond (is_near_call r) machines.near_call (cond (is_return r) machines.ret machines.neither)
 
 -- what no stage changes of a frame as long as it lives, the cycle of its opening too: all but its ergs, sp, pc, heap bounds and pubdata, which are 0 here
 unfoldable pub lasting_of : Frame → Frame
 lasting_of f = record {
+  ergs_remaining = 0;
+  sp = 0;
+  pc = 0;
+  heap_bound = 0;
+  aux_heap_bound = 0;
+  total_pubdata_spent = record { 0 = pos 0 };
+  -- the rest as it was
   context_u128_value = f.context_u128_value;
   this_address = f.this_address;
   msg_sender = f.msg_sender;
   code_address = f.code_address;
   base_memory_page = f.base_memory_page;
   code_page = f.code_page;
-  ergs_remaining = 0;
-  sp = 0;
-  pc = 0;
   exception_handler_location = f.exception_handler_location;
   this_shard_id = f.this_shard_id;
   caller_shard_id = f.caller_shard_id;
   code_shard_id = f.code_shard_id;
   is_static = f.is_static;
   is_local_frame = f.is_local_frame;
-  heap_bound = 0;
-  aux_heap_bound = 0;
-  total_pubdata_spent = record { 0 = pos 0 };
   stipend = f.stipend;
   opening_cycle = f.opening_cycle;
 }
@@ -89,10 +92,10 @@ lasting_of f = record {
 abbrev pub core : machines.Machine
 core = record {
   State = State;
-  FetchInput = FetchInput;
-  DecodeInput = DecodeInput;
-  OperandsInput = Settings;
-  ExecuteInput = ExecuteInput;
+  FetchCall = CoreFetch;
+  DecodeCall = CoreDecode;
+  OperandsCall = Settings;
+  ExecuteCall = CoreExecute;
   fetch_of = fetch_outcome;
   decode_of = decode_outcome;
   operands_of = operands_outcome;
@@ -103,10 +106,10 @@ core = record {
   lasting = λ s. lasting_of s.current;
   depth = λ s. s.depth;
   stage = λ s. stage_of s.stage;
-  kept = λ s. operation_of s.kept.instruction.operation;
+  kept = λ s. operation_of (record_of s);
   plain_price = λ x s. x.records.plain.price;
-  keeps = λ x s. operation_of (kept_of x.settings x.records s).operation;
-  passes = λ x s. passed_in x.settings (want_in x.word x.pointer s) s;
+  keeps = λ x s. operation_of (kept_of x.settings x.records s);
+  passes = λ x s. passed_in x.settings (want_in x.input s) s;
   row_width = row_width;
   row_ergs = λ row. (frame_of row).ergs_remaining;
   row_lasting = λ row. lasting_of (frame_of row);

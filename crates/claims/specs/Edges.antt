@@ -13,6 +13,7 @@ use Rattle.decoding.specs.Charge.{any_error}
 use Rattle.stages.specs.declared.State.{State}
 use Rattle.stages.specs.declared.Staged.{Staged}
 use Rattle.stages.specs.declared.DecodeAnswer.{DecodeAnswer}
+use Rattle.stages.specs.declared.ExecuteInput.{ExecuteInput}
 use Rattle.stages.specs.declared.OperandsAnswer.{OperandsAnswer}
 use Rattle.stages.specs.declared.Event.{Event}
 use Rattle.stages.specs.declared.ExecuteAnswer.{ExecuteAnswer}
@@ -58,15 +59,19 @@ abbrev division : State → Result ExecuteAnswer Refusal → List ℕ → List �
 division s (Ok answer) row = opening s answer.event row
 division s (Err refusal) row = paper_number refusal ∷ []
 
+-- no word is read
+abbrev no_input : ExecuteInput
+no_input = record { word = empty_word; pointer = false }
+
 abbrev pub calls : ℕ → ℕ → ℕ → List ℕ
 calls multiplier held want =
-    division after.state after.answer (row_at (execute_store (settings_of 4 multiplier) empty_word false s (empty_store 4)) 1)
+    division after.state after.answer (row_at (execute_store 16 (settings_of 4 multiplier) no_input s (empty_store 4)) 1)
   where
     s : State
     s = state_at 3 (one_word want ∷ replicate 14 empty_word) held 0 (instruction 3 0 0 1 0)
 
     after : Staged ExecuteAnswer
-    after = execute_of (settings_of 4 multiplier) empty_word false s (empty_store 4)
+    after = execute_of 16 (settings_of 4 multiplier) no_input s (empty_store 4)
 
 -- operands of these kinds (2 is push/pop) with these immediates, at this sp: the source and the destination, each 0 for none or 1, memory kind, page and index,
 -- and sp afterwards
@@ -103,7 +108,7 @@ abbrev pub addresses : ℕ → ℕ → ℕ → ℕ → ℕ → List ℕ
 addresses source destination imm0 imm1 sp = places after.state after.answer
   where
     after : Staged OperandsAnswer
-    after = operands_of (settings_of 4 1) (state_at 2 (replicate 15 empty_word) 0 sp (placed source destination imm0 imm1)) (empty_store 4)
+    after = operands_of 16 (settings_of 4 1) (state_at 2 (replicate 15 empty_word) 0 sp (placed source destination imm0 imm1)) (empty_store 4)
 
 -- an operation (1 add, 2 sub) of registers 1 and 2 into register 3, with set flags: the result, then overflow, equal, greater
 abbrev bits : Flags → List ℕ
@@ -139,7 +144,7 @@ combines operation a b = value_of (register_of after.registers 3) ∷ bits after
   where
     after : State
     after =
-        (execute_of (settings_of 4 1) empty_word false
+        (execute_of 16 (settings_of 4 1) no_input
         (state_at 3 (words_of a ∷ words_of b ∷ replicate 13 empty_word) 0 0 (combining operation)) (empty_store 4)).state
 
 -- a nop at this pc: the code word that the query asks for, as a location; what fetch answers, 0 for code and the part of the word (each part holds its number, the
@@ -148,7 +153,7 @@ abbrev pub steps : ℕ → List ℕ
 steps pc =
     location_case (query_of (at 0))
     ++ (fetch_case (fetch_of (settings_of 4 1) (record { w0 = 3; w1 = 2; w2 = 1; w3 = 0 }) (at 0) (empty_store 4)).answer
-    ++ ((execute_of (settings_of 4 1) empty_word false (at 3) (empty_store 4)).state.current.pc ∷ []))
+    ++ ((execute_of 16 (settings_of 4 1) no_input (at 3) (empty_store 4)).state.current.pc ∷ []))
   where
     at : ℕ → State
     at stage = moved_state (state_at stage (replicate 15 empty_word) 0 0 no_record) pc

@@ -34,14 +34,14 @@ module _ (input : Input) (s : State) (store : List ℕ) (f : Staged FetchAnswer)
     unfolding cycle_of cycle_store
     decode_refuses n e = rw (← ef, z0, ← ed, e) (refl, refl)
 
-    module _ (decoded : DecodeAnswer) (z1 : d.answer ≡ Ok decoded) (o : Staged OperandsAnswer) (eo : o ≡ operands_of input.settings d.state store) where
+    module _ (decoded : DecodeAnswer) (z1 : d.answer ≡ Ok decoded) (o : Staged OperandsAnswer) (eo : o ≡ operands_of 16 input.settings d.state store) where
       pub operands_refuse : (n : Refusal) → o.answer ≡ Err n → Gives input s store (refused_at o.state n Stage.Operands) store
       unfolding cycle_of cycle_store
       operands_refuse n e = rw (← ef, z0, ← ed, z1, ← eo, e) (refl, refl)
 
       module _ (addressed : OperandsAnswer) (z2 : o.answer ≡ Ok addressed) (x : Staged ExecuteAnswer) (after : List ℕ)
-          (ex : (x ≡ execute_of input.settings input.source input.pointer o.state store)
-          × (after ≡ execute_store input.settings input.source input.pointer o.state store)) where
+          (ex : (x ≡ execute_of 16 input.settings input.execute o.state store)
+          × (after ≡ execute_store 16 input.settings input.execute o.state store)) where
         pub execute_refuses : (n : Refusal) → x.answer ≡ Err n → Gives input s store (refused_at x.state n Stage.Execute) after
         unfolding cycle_of cycle_store
         execute_refuses n e = rw (← ef, z0, ← ed, z1, ← eo, z2, ← ex.0, ← ex.1, e) (refl, refl)

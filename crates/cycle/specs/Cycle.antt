@@ -28,10 +28,10 @@ abbrev pub decode_in : Input → State → List ℕ → Staged DecodeAnswer
 decode_in input s store = decode_of input.settings input.records (fetch_in input s store).state store
 
 abbrev pub operands_in : Input → State → List ℕ → Staged OperandsAnswer
-operands_in input s store = operands_of input.settings (decode_in input s store).state store
+operands_in input s store = operands_of 16 input.settings (decode_in input s store).state store
 
 abbrev pub execute_in : Input → State → List ℕ → Staged ExecuteAnswer
-execute_in input s store = execute_of input.settings input.source input.pointer (operands_in input s store).state store
+execute_in input s store = execute_of 16 input.settings input.execute (operands_in input s store).state store
 
 -- a cycle that ends with a refusal: the state that was handed back, the refusal and its stage
 abbrev pub refused_at : State → Refusal → Stage → Cycled
@@ -65,7 +65,7 @@ is_reached input s store = is_ok (fetch_in input s store).answer && is_ok (decod
 unfoldable pub cycle_store : Input → State → List ℕ → List ℕ
 cycle_store input s store =
     cond (is_reached input s store)
-    (execute_store input.settings input.source input.pointer (operands_in input s store).state store)
+    (execute_store 16 input.settings input.execute (operands_in input s store).state store)
     store
 
 -- ---- the number and the charge of a cycle's answer

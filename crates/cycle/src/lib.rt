@@ -8,17 +8,18 @@ ghost use Rattle.cycle.specs.Cycle.{refused_at, cycle_of, cycle_store, cycle_num
 use addressing::Location;
 use records::{Records, Settings};
 use refusal::Refusal;
-use stages::{DecodeAnswer, ExecuteAnswer, FetchAnswer, OperandsAnswer, Stage, State};
+use stages::{
+    DecodeAnswer, ExecuteAnswer, ExecuteInput, FetchAnswer, OperandsAnswer, Stage, State,
+};
 use u256::U256;
 
-// What a cycle is given: the code word that fetch is handed, and the source word of execute with its pointer bit.
+// What a cycle is given beside the state and the store: the code word that fetch is handed, and what execute is.
 #[derive(Clone, Copy)]
 pub struct Input {
     pub code: U256,
-    pub source: U256,
+    pub execute: ExecuteInput,
     pub settings: Settings,
     pub records: Records,
-    pub pointer: bool,
 }
 
 // The code read that was wanted, and the four answers.
@@ -75,9 +76,7 @@ pub fn cycle(state: State, input: Input, store: &mut [u32]) -> Cycled
         Ok(answer) => answer,
         Err(refusal) => return refused_at(addressed.state, refusal, Stage::Operands),
     };
-    let executed = addressed
-        .state
-        .execute(settings, store, input.source, input.pointer);
+    let executed = addressed.state.execute(settings, store, input.execute);
     let execute = match executed.answer {
         Ok(answer) => answer,
         Err(refusal) => return refused_at(executed.state, refusal, Stage::Execute),

@@ -5,7 +5,7 @@ use frame::{Frame, PubdataCost, ROW_WIDTH};
 use records::Record;
 use records::kinds::Operation;
 use refusal::Refusal;
-use stages::{Event, FetchAnswer, State};
+use stages::{Event, ExecuteInput, FetchAnswer, State};
 use u256::U256;
 
 const LIMIT: u32 = 4;
@@ -63,10 +63,12 @@ impl Case {
         frame::save_frame(&mut store, 0, below)?;
         let input = Input {
             code: self.code,
-            source: U256::default(),
+            execute: ExecuteInput {
+                word: U256::default(),
+                pointer: false,
+            },
             settings: start::settings_of(LIMIT, self.multiplier),
             records: start::records_of(self.plain),
-            pointer: false,
         };
         let cycled = cycle::cycle(self.state, input, &mut store);
         let done = cycled.answer.map_err(|refused| refused.refusal)?;

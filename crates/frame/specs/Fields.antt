@@ -4,13 +4,14 @@ use Rattle.frame.specs.declared.Frame.{Frame}
 
 unfoldable pub with_ergs : Frame → ℕ → Frame
 with_ergs f ergs = record {
+  ergs_remaining = ergs;
+  -- the rest as it was
   context_u128_value = f.context_u128_value;
   this_address = f.this_address;
   msg_sender = f.msg_sender;
   code_address = f.code_address;
   base_memory_page = f.base_memory_page;
   code_page = f.code_page;
-  ergs_remaining = ergs;
   sp = f.sp;
   pc = f.pc;
   exception_handler_location = f.exception_handler_location;
@@ -28,6 +29,8 @@ with_ergs f ergs = record {
 
 unfoldable pub with_sp : Frame → ℕ → Frame
 with_sp f sp = record {
+  sp = sp;
+  -- the rest as it was
   context_u128_value = f.context_u128_value;
   this_address = f.this_address;
   msg_sender = f.msg_sender;
@@ -35,7 +38,6 @@ with_sp f sp = record {
   base_memory_page = f.base_memory_page;
   code_page = f.code_page;
   ergs_remaining = f.ergs_remaining;
-  sp = sp;
   pc = f.pc;
   exception_handler_location = f.exception_handler_location;
   this_shard_id = f.this_shard_id;
@@ -52,6 +54,8 @@ with_sp f sp = record {
 
 unfoldable pub with_pc : Frame → ℕ → Frame
 with_pc f pc = record {
+  pc = pc;
+  -- the rest as it was
   context_u128_value = f.context_u128_value;
   this_address = f.this_address;
   msg_sender = f.msg_sender;
@@ -60,7 +64,6 @@ with_pc f pc = record {
   code_page = f.code_page;
   ergs_remaining = f.ergs_remaining;
   sp = f.sp;
-  pc = pc;
   exception_handler_location = f.exception_handler_location;
   this_shard_id = f.this_shard_id;
   caller_shard_id = f.caller_shard_id;

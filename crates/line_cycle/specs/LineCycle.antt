@@ -40,16 +40,16 @@ op_record Op.Panic price = instruction 4 2 0 0 price
 unfoldable pub input_of : ℕ → Op → ℕ → Input
 input_of limit op price = record {
   code = empty_word;
-  source = empty_word;
+  execute = record { word = empty_word; pointer = false };
   settings = settings_of limit 1;
   records = records_of (op_record op price);
-  pointer = false;
 }
 
 -- the request of a line in register 1
 unfoldable pub requested_state : State → ℕ → State
 requested_state s want = record {
   registers = set s.registers 0 (one_word want);
+  -- the rest as it was
   current = s.current;
   previous_code_word = s.previous_code_word;
   fetched_word = s.fetched_word;

@@ -9,7 +9,7 @@ use cycle::Input;
 use records::Record;
 use records::kinds::{OperandKind, Operation, ReturnKind};
 use refusal::Refusal;
-use stages::State;
+use stages::{ExecuteInput, State};
 use table::{Line, Op, Row};
 use u256::U256;
 
@@ -45,10 +45,12 @@ pub fn input_of(limit: u32, op: Op, price: u32) -> Input
     let records = start::records_of(record_of(op, price));
     Input {
         code: none,
-        source: none,
+        execute: ExecuteInput {
+            word: none,
+            pointer: false,
+        },
         settings,
         records,
-        pointer: false,
     }
 }
 

@@ -11,15 +11,15 @@ use Rattle.lists.specs.Claims.{calls_left, Covered, CyclesCover}
 use Rattle.lists.proofs.Cycles.{Follow, all_follow}
 
 module _ (M : Machine) where
-  open M use {State, FetchInput, DecodeInput, OperandsInput, ExecuteInput}
+  open M use {State, FetchCall, DecodeCall, OperandsCall, ExecuteCall}
 
   -- calls that take the stages in turn, from this one on
   data From : Reached → List (Called M) → Type 0 where
     end : {a : Reached} → From a []
-    by_fetch : (x : FetchInput) (s : State) (m : List ℕ) {es : List (Called M)} → From fetched es → From ready (called (fetch x) s m ∷ es)
-    by_decode : (x : DecodeInput) (s : State) (m : List ℕ) {es : List (Called M)} → From decoded es → From fetched (called (decode x) s m ∷ es)
-    by_operands : (x : OperandsInput) (s : State) (m : List ℕ) {es : List (Called M)} → From addressed es → From decoded (called (operands x) s m ∷ es)
-    by_execute : (x : ExecuteInput) (s : State) (m : List ℕ) {es : List (Called M)} → From ready es → From addressed (called (execute x) s m ∷ es)
+    by_fetch : (x : FetchCall) (s : State) (m : List ℕ) {es : List (Called M)} → From fetched es → From ready (called (fetch x) s m ∷ es)
+    by_decode : (x : DecodeCall) (s : State) (m : List ℕ) {es : List (Called M)} → From decoded es → From fetched (called (decode x) s m ∷ es)
+    by_operands : (x : OperandsCall) (s : State) (m : List ℕ) {es : List (Called M)} → From addressed es → From decoded (called (operands x) s m ∷ es)
+    by_execute : (x : ExecuteCall) (s : State) (m : List ℕ) {es : List (Called M)} → From ready es → From addressed (called (execute x) s m ∷ es)
 
   with_first : (c : Call M) (s : State) (m : List ℕ) {es : List (Called M)} → From (brings_to M c) es → From (takes_at M c) (called c s m ∷ es)
   with_first (fetch x) s m r = by_fetch x s m r

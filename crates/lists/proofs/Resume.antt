@@ -18,7 +18,7 @@ use Rattle.lists.proofs.Cycles.{Follow, follow, Does, does}
 
 -- ---- the frames above the caller of a near call
 module _ (M : Machine) (call : Cycle M) where
-  open M use {State, ExecuteInput, Lasting, is_local, ergs, lasting, depth, passes, row_ergs, row_lasting}
+  open M use {State, ExecuteCall, Lasting, is_local, ergs, lasting, depth, passes, row_ergs, row_lasting}
 
   -- the caller's depth, which is also the row that it is saved as
   abbrev d : ℕ
@@ -57,7 +57,7 @@ module _ (M : Machine) (call : Cycle M) where
           below = a.below;
         })
 
-    opened_above : {k : ℕ} (x : ExecuteInput) → OpensFrame M x s m o → share M call ≤ row_ergs (machine_row M o.store d)
+    opened_above : {k : ℕ} (x : ExecuteCall) → OpensFrame M x s m o → share M call ≤ row_ergs (machine_row M o.store d)
         → row_lasting (machine_row M o.store d) ≡ lasting (before M call) → Above k s m paid → Above (suc k) o.state o.store paid
     unfolding saved_ergs
     opened_above {k} x z l e a =

@@ -5,10 +5,10 @@ use Rattle.lists.specs.Machine.{Machine, Outcome, FrameOperation, near_call, ret
 -- ---- calls
 -- a call of a stage, with what it is given besides the state and the store
 pub data Call (M : Machine) : Type 0 where
-  fetch : M.FetchInput → Call M
-  decode : M.DecodeInput → Call M
-  operands : M.OperandsInput → Call M
-  execute : M.ExecuteInput → Call M
+  fetch : M.FetchCall → Call M
+  decode : M.DecodeCall → Call M
+  operands : M.OperandsCall → Call M
+  execute : M.ExecuteCall → Call M
 
 -- a call in a list, with the state and the store that it is given
 pub data Called (M : Machine) : Type 0 where
@@ -41,10 +41,10 @@ pub record Given (State Input : Type 0) : Type 0 where
   pub store : List ℕ
 
 pub record Cycle (M : Machine) : Type 0 where
-  pub fetch : Given M.State M.FetchInput
-  pub decode : Given M.State M.DecodeInput
-  pub operands : Given M.State M.OperandsInput
-  pub execute : Given M.State M.ExecuteInput
+  pub fetch : Given M.State M.FetchCall
+  pub decode : Given M.State M.DecodeCall
+  pub operands : Given M.State M.OperandsCall
+  pub execute : Given M.State M.ExecuteCall
 
 module _ (M : Machine) where
   open M use {State}

@@ -12,15 +12,16 @@ passed_ergs wanted held = cond (wanted == 0 || nat_lt held wanted) held wanted
 -- the caller, with what it keeps and where it goes on
 unfoldable pub caller_of : Frame → ℕ → ℕ → Frame
 caller_of f ergs pc = record {
+  ergs_remaining = ergs;
+  pc = pc;
+  -- the rest as it was
   context_u128_value = f.context_u128_value;
   this_address = f.this_address;
   msg_sender = f.msg_sender;
   code_address = f.code_address;
   base_memory_page = f.base_memory_page;
   code_page = f.code_page;
-  ergs_remaining = ergs;
   sp = f.sp;
-  pc = pc;
   exception_handler_location = f.exception_handler_location;
   this_shard_id = f.this_shard_id;
   caller_shard_id = f.caller_shard_id;
@@ -37,24 +38,25 @@ caller_of f ergs pc = record {
 -- the opened frame: a copy of its caller but for pc, handler, ergs, local, pubdata and the cycle of opening, which is the one given
 unfoldable pub opened_of : Frame → ℕ → ℕ → ℕ → ℕ → Frame
 opened_of f ergs pc handler cycle = record {
+  ergs_remaining = ergs;
+  pc = pc;
+  exception_handler_location = handler;
+  is_local_frame = true;
+  total_pubdata_spent = record { 0 = pos 0 };
+  opening_cycle = cycle;
+  -- the rest as it was
   context_u128_value = f.context_u128_value;
   this_address = f.this_address;
   msg_sender = f.msg_sender;
   code_address = f.code_address;
   base_memory_page = f.base_memory_page;
   code_page = f.code_page;
-  ergs_remaining = ergs;
   sp = f.sp;
-  pc = pc;
-  exception_handler_location = handler;
   this_shard_id = f.this_shard_id;
   caller_shard_id = f.caller_shard_id;
   code_shard_id = f.code_shard_id;
   is_static = f.is_static;
-  is_local_frame = true;
   heap_bound = f.heap_bound;
   aux_heap_bound = f.aux_heap_bound;
-  total_pubdata_spent = record { 0 = pos 0 };
   stipend = f.stipend;
-  opening_cycle = cycle;
 }

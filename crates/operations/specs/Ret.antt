@@ -1,11 +1,10 @@
 -- The sums of a local return. Document 01: "return ok: pubdata sum outside 32 signed bits" (10); "revert counter after it (on ok, as it is) outside 32 signed bits or
 -- below 0" (11); "ergs sum above 4,294,967,295" (12); "a heap bound below the caller's" (13); "Return to label wins over the handler." Revert counts as panicked.
-use Rattle.std.specs.Prelude.{ℕ, ◌+◌, ◌^◌, Bool, true, false, cond, ◌||◌, [], ◌∷◌, ℤ, pos, negsuc, Option, Some, None, ◌==◌, nat_le, nat_lt}
+use Rattle.std.specs.Prelude.{ℕ, ◌+◌, ◌^◌, Bool, true, false, cond, ◌||◌, ℤ, pos, negsuc, Option, Some, None, ◌==◌, nat_le, nat_lt}
 use Rattle.signed.specs.Signed.{checked_sum, checked_difference}
 use Rattle.frame.specs.declared.Frame.{Frame}
 use Rattle.frame.specs.declared.PubdataCost.{PubdataCost}
 use Rattle.records.specs.declared.Record.{Record}
-use Rattle.refusal.specs.Refusal.{first_of, ◌refuses◌}
 
 -- the caller's pubdata afterwards, and the revert counter
 abbrev pub pubdata_after : Bool → ℤ → ℤ → Option ℤ
@@ -38,37 +37,28 @@ ergs_past caller closed = nat_le (2 ^ 32) (caller + closed)
 abbrev pub is_shrunk : Frame → Frame → Bool
 is_shrunk caller closed = nat_lt closed.heap_bound caller.heap_bound || nat_lt closed.aux_heap_bound caller.aux_heap_bound
 
-abbrev pub close_refusal : Bool → Frame → Frame → PubdataCost → Bool → ℕ
-close_refusal ok caller closed reverts late =
-    first_of
-    ((is_outside (pubdata_after ok caller.total_pubdata_spent.0 closed.total_pubdata_spent.0) refuses 10)
-    ∷ (is_bad_counter (counter_after ok reverts.0 closed.total_pubdata_spent.0) refuses 11)
-    ∷ (ergs_past caller.ergs_remaining closed.ergs_remaining refuses 12)
-    ∷ (is_shrunk caller closed refuses 13)
-    ∷ (late refuses 14)
-    ∷ [])
-
 -- the caller, which goes on with the closed frame's heap bounds. Document 02, CR 12, of the cycle of opening: every return "gives the caller its own back".
 unfoldable pub resumed_with : Frame → Frame → PubdataCost → ℕ → ℕ → Frame
 resumed_with f closed pubdata ergs pc = record {
+  ergs_remaining = ergs;
+  pc = pc;
+  heap_bound = closed.heap_bound;
+  aux_heap_bound = closed.aux_heap_bound;
+  total_pubdata_spent = pubdata;
+  -- the rest as it was
   context_u128_value = f.context_u128_value;
   this_address = f.this_address;
   msg_sender = f.msg_sender;
   code_address = f.code_address;
   base_memory_page = f.base_memory_page;
   code_page = f.code_page;
-  ergs_remaining = ergs;
   sp = f.sp;
-  pc = pc;
   exception_handler_location = f.exception_handler_location;
   this_shard_id = f.this_shard_id;
   caller_shard_id = f.caller_shard_id;
   code_shard_id = f.code_shard_id;
   is_static = f.is_static;
   is_local_frame = f.is_local_frame;
-  heap_bound = closed.heap_bound;
-  aux_heap_bound = closed.aux_heap_bound;
-  total_pubdata_spent = pubdata;
   stipend = f.stipend;
   opening_cycle = f.opening_cycle;
 }

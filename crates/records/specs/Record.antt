@@ -19,12 +19,23 @@ good_registers r = nat_le r.src0 15 && nat_le r.src1 15 && nat_le r.dst0 15
 abbrev pub good_record : Record → Bool
 good_record r = nat_le r.operation 5 && nat_le r.return_kind 2 && nat_le r.condition 7 && good_kinds r && good_registers r
 
--- a panic return
-abbrev pub is_panic : Record → Bool
-is_panic r = r.operation == 4 && r.return_kind == 2
-
+-- ---- the operations
 abbrev pub is_nop : Record → Bool
 is_nop r = r.operation == 0
+
+-- add and sub
+abbrev pub is_arithmetic : Record → Bool
+is_arithmetic r = r.operation == 1 || r.operation == 2
+
+abbrev pub is_near_call : Record → Bool
+is_near_call r = r.operation == 3
+
+abbrev pub is_return : Record → Bool
+is_return r = r.operation == 4
+
+-- a panic return
+abbrev pub is_panic : Record → Bool
+is_panic r = is_return r && r.return_kind == 2
 
 -- refusal 3 of decode: a record that is not good, "panic record not a panic return, nop record not a nop; ended and plain record not a nop on which decode sets
 -- no flag; exception and plain record not a panic return"

@@ -5,7 +5,7 @@ use crate::numbers::Numbers;
 use cycle::{Cycled, Input};
 use frame::{Frame, PubdataCost, ROW_WIDTH};
 use records::{Flags, Record, Records, Settings};
-use stages::{Executed, Stage, State};
+use stages::{ExecuteInput, Executed, Stage, State};
 use u256::U256;
 
 // The greatest limit and depth that are served.
@@ -64,7 +64,7 @@ impl Case {
         let mut state = self.state;
         state.kept.instruction = input.records.plain;
         state.stage = Stage::Execute as u8;
-        state.execute(input.settings, self.rows(), input.source, input.pointer)
+        state.execute(input.settings, self.rows(), input.execute)
     }
 }
 
@@ -157,9 +157,11 @@ fn input(numbers: &mut Numbers, settings: Settings) -> Option<Input> {
     };
     Some(Input {
         code: numbers.read_word()?,
-        source: numbers.read_word()?,
+        execute: ExecuteInput {
+            word: numbers.read_word()?,
+            pointer: numbers.read_bit()?,
+        },
         settings,
         records,
-        pointer: numbers.read_bit()?,
     })
 }

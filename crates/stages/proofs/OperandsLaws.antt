@@ -12,8 +12,9 @@ use Rattle.addressing.proofs.AddressLaws.{places_page}
 use Rattle.stages.specs.declared.State.{State}
 use Rattle.stages.specs.declared.Staged.{Staged}
 use Rattle.stages.specs.declared.OperandsAnswer.{OperandsAnswer}
-use Rattle.stages.specs.State.{decoded, bad_store, out_of_turn}
-use Rattle.stages.specs.Operands.{record_of, places_in, operands_checks, operands_refusal, operands_done, operands_of}
+use Rattle.stages.specs.State.{decoded, record_of, bad_store, out_of_turn}
+use Rattle.stages.specs.Checks.{operands_checks}
+use Rattle.stages.specs.Operands.{places_in, operands_refusal, operands_done, operands_of}
 use Rattle.stages.specs.Answers.{location_case, operands_case}
 use Rattle.stages.specs.Tells.{source_tells, destination_tells, operands_tells}
 use Rattle.stages.proofs.CheckLaws.{refused_first}
@@ -34,7 +35,7 @@ pub refused : (settings : Settings) (s : State) (store : List ℕ) (sizes : Bool
     → (sizes || turn || not good || lacking) ≡ true
     → (q : Refusal) → q ≡ cond sizes Refusal.Sizes (cond turn Refusal.Turn (cond (not good) Refusal.Record Refusal.Above32Bits))
     → (r : Staged OperandsAnswer) → r ≡ record { state = s; answer = Err q }
-    → (r ≡ operands_of settings s store) × (refusal_number r.answer ≡ operands_refusal settings s store) × (operands_case r.answer ≡ operands_tells settings s store)
+    → (r ≡ operands_of 16 settings s store) × (refusal_number r.answer ≡ operands_refusal settings s store) × (operands_case r.answer ≡ operands_tells 16 settings s store)
 unfolding operands_of
 refused settings s store sizes ez turn eu good eg lacking el t q eq r er =
     let k = refused_first s (operands_done 16 s) (operands_checks settings s store) tt (rw (← ez, ← eu, ← eg, ← el) t) q

@@ -42,28 +42,30 @@ no_flags = record { overflow_or_less_than_flag = false; equality_flag = false; g
 -- "after execute it is ready, the record all 0, the location none"
 unfoldable pub finished_state : State → ℕ → ℕ → State
 finished_state s time counter = record {
+  kept = record { instruction = no_record; write = Location.None };
+  timestamp = time;
+  monotonic_cycle_counter = counter;
+  stage = ready;
+  -- the rest as it was
   registers = s.registers;
   current = s.current;
   previous_code_word = s.previous_code_word;
   fetched_word = s.fetched_word;
-  kept = record { instruction = no_record; write = Location.None };
   flags = s.flags;
   previous_code_memory_page = s.previous_code_memory_page;
-  timestamp = time;
-  monotonic_cycle_counter = counter;
   depth = s.depth;
   pubdata_revert_counter = s.pubdata_revert_counter;
   previous_super_pc = s.previous_super_pc;
   pointers = s.pointers;
-  stage = ready;
   pending_exception = s.pending_exception;
 }
 
 -- pc alone
 unfoldable pub moved_state : State → ℕ → State
 moved_state s pc = record {
-  registers = s.registers;
   current = with_pc s.current pc;
+  -- the rest as it was
+  registers = s.registers;
   previous_code_word = s.previous_code_word;
   fetched_word = s.fetched_word;
   kept = s.kept;
@@ -83,18 +85,19 @@ moved_state s pc = record {
 unfoldable pub written_state : State → Flags → ℕ → U256 → State
 written_state s flags n word = record {
   registers = update_of empty_word s.registers n word;
+  flags = flags;
+  pointers = update_of false s.pointers n false;
+  -- the rest as it was
   current = s.current;
   previous_code_word = s.previous_code_word;
   fetched_word = s.fetched_word;
   kept = s.kept;
-  flags = flags;
   previous_code_memory_page = s.previous_code_memory_page;
   timestamp = s.timestamp;
   monotonic_cycle_counter = s.monotonic_cycle_counter;
   depth = s.depth;
   pubdata_revert_counter = s.pubdata_revert_counter;
   previous_super_pc = s.previous_super_pc;
-  pointers = update_of false s.pointers n false;
   stage = s.stage;
   pending_exception = s.pending_exception;
 }
@@ -102,17 +105,18 @@ written_state s flags n word = record {
 -- a frame opened or closed: the frame that is current then, the depth, the flags and the revert counter
 unfoldable pub switched_state : State → Frame → ℕ → Flags → PubdataCost → State
 switched_state s f depth flags counter = record {
-  registers = s.registers;
   current = f;
+  flags = flags;
+  depth = depth;
+  pubdata_revert_counter = counter;
+  -- the rest as it was
+  registers = s.registers;
   previous_code_word = s.previous_code_word;
   fetched_word = s.fetched_word;
   kept = s.kept;
-  flags = flags;
   previous_code_memory_page = s.previous_code_memory_page;
   timestamp = s.timestamp;
   monotonic_cycle_counter = s.monotonic_cycle_counter;
-  depth = depth;
-  pubdata_revert_counter = counter;
   previous_super_pc = s.previous_super_pc;
   pointers = s.pointers;
   stage = s.stage;

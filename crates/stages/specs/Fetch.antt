@@ -1,9 +1,9 @@
 -- Fetch. Document 01: "A query says whether a code read is wanted, and from which page and index: page or super pc changed, and not ended. It reads the state alone
 -- and never refuses. Fetch takes that word, not looked at when none was wanted." "The answer is 64 bits of code, or exception (pending), or nop (ended)."
-use Rattle.std.specs.Prelude.{ℕ, Bool, cond, ◌&&◌, List, [], ◌∷◌, Option, Ok, unwrap_or}
+use Rattle.std.specs.Prelude.{ℕ, Bool, cond, List, Option, Ok, unwrap_or}
 use Rattle.std.specs.Bool.{then_some}
 use Rattle.u256.specs.declared.U256.{U256}
-use Rattle.refusal.specs.Refusal.{Check, first_of, ◌refuses◌}
+use Rattle.refusal.specs.Refusal.{first_of}
 use Rattle.records.specs.declared.Settings.{Settings}
 use Rattle.addressing.specs.declared.Location.{Location}
 use Rattle.decoding.specs.Code.{super_pc, sub_pc, code_changed, code_bits}
@@ -11,7 +11,8 @@ use Rattle.addressing.specs.Address.{in_code}
 use Rattle.stages.specs.declared.State.{State}
 use Rattle.stages.specs.declared.Staged.{Staged}
 use Rattle.stages.specs.declared.FetchAnswer.{FetchAnswer}
-use Rattle.stages.specs.State.{ready, fetched, is_ended, bad_store, out_of_turn, refused_with, settled}
+use Rattle.stages.specs.State.{fetched, is_ended, refused_with, settled}
+use Rattle.stages.specs.Checks.{fetch_checks}
 
 abbrev pub code_wanted : State → Bool
 code_wanted s =
@@ -27,11 +28,6 @@ query_of s = location_if (code_wanted s) s.current.code_page (super_pc s.current
 abbrev pub code_answer : Bool → Bool → ℕ → FetchAnswer
 code_answer ended pending bits = cond ended FetchAnswer.Nop (cond pending FetchAnswer.Exception (FetchAnswer.Code bits))
 
--- refusal 4, "ended and pending"
-abbrev pub fetch_checks : Settings → State → List ℕ → List Check
-fetch_checks settings s store =
-    (bad_store settings s store refuses 1) ∷ (out_of_turn ready s refuses 2) ∷ ((is_ended s && s.pending_exception) refuses 4) ∷ []
-
 abbrev pub fetch_refusal : Settings → State → List ℕ → ℕ
 fetch_refusal settings s store = first_of (fetch_checks settings s store)
 
@@ -46,10 +42,12 @@ code_word s word = unwrap_or (word_read s word) s.previous_code_word
 -- the state keeps the word read until decode
 unfoldable pub fetched_state : State → Option U256 → State
 fetched_state s read = record {
+  fetched_word = read;
+  stage = fetched;
+  -- the rest as it was
   registers = s.registers;
   current = s.current;
   previous_code_word = s.previous_code_word;
-  fetched_word = read;
   kept = s.kept;
   flags = s.flags;
   previous_code_memory_page = s.previous_code_memory_page;
@@ -59,7 +57,6 @@ fetched_state s read = record {
   pubdata_revert_counter = s.pubdata_revert_counter;
   previous_super_pc = s.previous_super_pc;
   pointers = s.pointers;
-  stage = fetched;
   pending_exception = s.pending_exception;
 }
 

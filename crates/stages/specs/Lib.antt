@@ -1,12 +1,14 @@
 pub mod State
+pub mod Checks
 pub mod Fetch
 pub mod Decode
 pub mod Operands
 pub mod Effects
 pub mod Helpers
+pub mod Arithmetic
 pub mod NearCall
 pub mod Ret
-pub mod Arithmetic
 pub mod Execute
+pub mod Parts
 pub mod Answers
 pub mod Tells

@@ -1,10 +1,7 @@
--- Near call. Document 01: "Near call wants the low 32 bits of src0 times the multiplier"; refusal 9, "near call at depth equal to limit". The caller is saved as the
--- first free row, the flags are cleared. Document 02, CR 12: the opened frame has "the cycle counter that `start_frame` is given at its opening", which is the counter
+-- Near call. Document 01: "Near call wants the low 32 bits of src0 times the multiplier". The caller is saved as the first free row, the flags are cleared. Document 02, CR 12: the opened frame has "the cycle counter that `start_frame` is given at its opening", which is the counter
 -- before the cycle adds its 1.
-use Rattle.std.specs.Prelude.{ℕ, ◌+◌, ◌-◌, Bool, cond, List, [], ◌∷◌, None, Some, Ok, ◌==◌}
+use Rattle.std.specs.Prelude.{ℕ, ◌+◌, ◌-◌, None, Some, Ok}
 use Rattle.frame.specs.declared.Frame.{Frame}
-use Rattle.refusal.specs.Refusal.{Check, first_of, ◌refuses◌}
-use Rattle.frame.specs.Store.{saved_store}
 use Rattle.records.specs.declared.Settings.{Settings}
 use Rattle.operations.specs.NearCall.{wanted_ergs, passed_ergs, caller_of, opened_of}
 use Rattle.operations.specs.Time.{next_pc}
@@ -12,43 +9,26 @@ use Rattle.stages.specs.declared.State.{State}
 use Rattle.stages.specs.declared.Event.{Event}
 use Rattle.stages.specs.declared.Staged.{Staged}
 use Rattle.stages.specs.declared.ExecuteAnswer.{ExecuteAnswer}
-use Rattle.stages.specs.State.{is_ended, refused_with, settled}
+use Rattle.stages.specs.State.{is_ended}
 use Rattle.stages.specs.Effects.{no_flags, switched_state}
-use Rattle.stages.specs.Helpers.{late_in, finished_in}
-
-abbrev pub call_checks : Bool → Bool → List Check
-call_checks full late = (full refuses 9) ∷ (late refuses 14) ∷ []
-
-abbrev pub call_refusal : Bool → Bool → ℕ
-call_refusal full late = first_of (call_checks full late)
-
-abbrev pub call_refusal_in : Settings → State → ℕ
-call_refusal_in settings s = call_refusal (s.depth == settings.depth_limit) (late_in settings s)
+use Rattle.stages.specs.Helpers.{finished_in}
 
 -- what is passed of the ergs held
 abbrev pub passed_in : Settings → ℕ → State → ℕ
 passed_in settings want s = passed_ergs (wanted_ergs want settings.near_call_multiplier) s.current.ergs_remaining
 
 -- the caller as it is saved
-abbrev pub caller_in : Settings → ℕ → State → Frame
-caller_in settings want s =
-    caller_of s.current (s.current.ergs_remaining - passed_in settings want s) (next_pc 16 s.current.pc (is_ended s))
+abbrev pub caller_in : ℕ → Settings → ℕ → State → Frame
+caller_in w settings want s =
+    caller_of s.current (s.current.ergs_remaining - passed_in settings want s) (next_pc w s.current.pc (is_ended s))
 
-unfoldable pub near_call_done : Settings → ℕ → State → Staged ExecuteAnswer
-near_call_done settings want s = record {
+unfoldable pub near_call_done : ℕ → Settings → ℕ → State → Staged ExecuteAnswer
+near_call_done w settings want s = record {
   state =
       switched_state (finished_in settings s)
-      (opened_of (caller_in settings want s) (passed_in settings want s) s.kept.instruction.imm_0 s.kept.instruction.imm_1 s.monotonic_cycle_counter)
+      (opened_of (caller_in w settings want s) (passed_in settings want s) s.kept.instruction.imm_0 s.kept.instruction.imm_1 s.monotonic_cycle_counter)
       (s.depth + 1)
       no_flags
       s.pubdata_revert_counter;
   answer = Ok (record { write = None; event = Some Event.Opened });
 }
-
-unfoldable pub near_call_of : Settings → ℕ → State → Staged ExecuteAnswer
-near_call_of settings want s = settled (call_refusal_in settings s) (refused_with s) (near_call_done settings want s)
-
--- the store afterwards: on a refusal, what was given
-unfoldable pub near_call_store : Settings → ℕ → State → List ℕ → List ℕ
-near_call_store settings want s store =
-    cond (call_refusal_in settings s == 0) (saved_store store s.depth (caller_in settings want s)) store

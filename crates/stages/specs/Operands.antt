@@ -1,21 +1,17 @@
 -- Operands. Document 01: "Source first, then destination on the changed sp." "Stack page is base plus 1. Nop reads nothing but moves sp." The answer is where the
 -- source is read, and where the destination is to be written.
-use Rattle.std.specs.Prelude.{ℕ, ◌+◌, not, List, [], ◌∷◌, Ok}
-use Rattle.refusal.specs.Refusal.{Check, first_of, ◌refuses◌}
+use Rattle.std.specs.Prelude.{ℕ, ◌+◌, List, Ok}
+use Rattle.refusal.specs.Refusal.{first_of}
 use Rattle.frame.specs.Fields.{with_sp}
 use Rattle.records.specs.declared.Settings.{Settings}
-use Rattle.records.specs.declared.Record.{Record}
 use Rattle.addressing.specs.declared.Location.{Location}
 use Rattle.addressing.specs.declared.Places.{Places}
-use Rattle.records.specs.Record.{good_record}
-use Rattle.addressing.specs.Address.{lacks_stack_page, places_of}
+use Rattle.addressing.specs.Address.{places_of}
 use Rattle.stages.specs.declared.State.{State}
 use Rattle.stages.specs.declared.Staged.{Staged}
 use Rattle.stages.specs.declared.OperandsAnswer.{OperandsAnswer}
-use Rattle.stages.specs.State.{decoded, addressed, bad_store, out_of_turn, refused_with, settled}
-
-abbrev pub record_of : State → Record
-record_of s = s.kept.instruction
+use Rattle.stages.specs.State.{addressed, record_of, refused_with, settled}
+use Rattle.stages.specs.Checks.{operands_checks}
 
 abbrev pub stack_page : State → ℕ
 stack_page s = s.current.base_memory_page + 1
@@ -24,25 +20,18 @@ stack_page s = s.current.base_memory_page + 1
 abbrev pub places_in : ℕ → State → Places
 places_in w s = places_of w (record_of s) s.registers (stack_page s) s.current.code_page s.current.sp
 
--- refusal 3 is about the kept record; 14 is "page of a stack kind", above 32 bits
-abbrev pub operands_checks : Settings → State → List ℕ → List Check
-operands_checks settings s store =
-    (bad_store settings s store refuses 1)
-    ∷ (out_of_turn decoded s refuses 2)
-    ∷ (not (good_record (record_of s)) refuses 3)
-    ∷ (lacks_stack_page (record_of s) s.current.base_memory_page refuses 14)
-    ∷ []
-
 abbrev pub operands_refusal : Settings → State → List ℕ → ℕ
 operands_refusal settings s store = first_of (operands_checks settings s store)
 
 unfoldable pub addressed_state : State → ℕ → Location → State
 addressed_state s sp write = record {
-  registers = s.registers;
   current = with_sp s.current sp;
+  kept = record { instruction = s.kept.instruction; write = write };
+  stage = addressed;
+  -- the rest as it was
+  registers = s.registers;
   previous_code_word = s.previous_code_word;
   fetched_word = s.fetched_word;
-  kept = record { instruction = s.kept.instruction; write = write };
   flags = s.flags;
   previous_code_memory_page = s.previous_code_memory_page;
   timestamp = s.timestamp;
@@ -51,7 +40,6 @@ addressed_state s sp write = record {
   pubdata_revert_counter = s.pubdata_revert_counter;
   previous_super_pc = s.previous_super_pc;
   pointers = s.pointers;
-  stage = addressed;
   pending_exception = s.pending_exception;
 }
 
@@ -61,6 +49,5 @@ operands_done w s = record {
   answer = Ok (record { source = (places_in w s).source; destination = (places_in w s).destination });
 }
 
-unfoldable pub operands_of : Settings → State → List ℕ → Staged OperandsAnswer
-operands_of settings s store =
-    settled (operands_refusal settings s store) (refused_with s) (operands_done 16 s)
+unfoldable pub operands_of : ℕ → Settings → State → List ℕ → Staged OperandsAnswer
+operands_of w settings s store = settled (operands_refusal settings s store) (refused_with s) (operands_done w s)

@@ -2,6 +2,7 @@
 use Rattle.std.specs.Prelude.{ℕ, Bool, cond, not, List, length, Err, ◌==◌}
 use Rattle.refusal.specs.Refusal.{numbered_refusal}
 use Rattle.records.specs.declared.Settings.{Settings}
+use Rattle.records.specs.declared.Record.{Record}
 use Rattle.records.specs.Sizes.{bad_sizes}
 use Rattle.stages.specs.declared.Stage.{Stage}
 use Rattle.stages.specs.declared.State.{State}
@@ -28,6 +29,10 @@ stage_number Stage.Execute = addressed
 
 abbrev pub is_ended : State → Bool
 is_ended s = s.depth == 0
+
+-- the record that decode kept
+abbrev pub record_of : State → Record
+record_of s = s.kept.instruction
 
 -- the checks of refusals 1 and 2, of every stage
 abbrev pub bad_store : Settings → State → List ℕ → Bool

@@ -5,23 +5,22 @@ use Rattle.u256.specs.declared.U256.{U256}
 use Rattle.u256.specs.U256.{value_of}
 use Rattle.u256.specs.Word.{wrapping_difference}
 use Rattle.frame.specs.Kernel.{kernel_mode}
-use Rattle.refusal.specs.Refusal.{first_of}
 use Rattle.registers.specs.Registers.{register_of}
 use Rattle.records.specs.declared.Settings.{Settings}
 use Rattle.records.specs.declared.Records.{Records}
-use Rattle.records.specs.Record.{is_nop}
+use Rattle.records.specs.Record.{is_nop, is_arithmetic, is_near_call, is_return}
 use Rattle.decoding.specs.Code.{super_pc, sub_pc, code_bits}
 use Rattle.addressing.specs.Address.{vaddr_of}
 use Rattle.stages.specs.declared.State.{State}
-use Rattle.stages.specs.State.{is_ended}
+use Rattle.stages.specs.declared.ExecuteInput.{ExecuteInput}
+use Rattle.stages.specs.State.{is_ended, record_of}
+use Rattle.stages.specs.Checks.{is_ok, is_stored, sources_in}
 use Rattle.stages.specs.Fetch.{code_wanted, code_word, fetch_refusal}
 use Rattle.stages.specs.Decode.{price_in, decode_refusal}
-use Rattle.stages.specs.Operands.{record_of, stack_page, operands_refusal}
-use Rattle.stages.specs.Helpers.{is_stored}
+use Rattle.stages.specs.Operands.{stack_page, operands_refusal}
 use Rattle.stages.specs.Arithmetic.{result_in}
-use Rattle.stages.specs.Ret.{is_ok}
-use Rattle.stages.specs.Execute.{sources_in}
-use Rattle.stages.specs.Answers.{location_case, is_arithmetic, is_near_call, is_return, execute_checks}
+use Rattle.stages.specs.Execute.{execute_refusal}
+use Rattle.stages.specs.Answers.{location_case}
 
 -- ---- what the query, fetch and decode are to tell
 -- "whether a code read is wanted, and from which page and index"
@@ -76,22 +75,21 @@ destination_tells w s =
     (cond ((record_of s).destination_kind == 3) (1 ∷ 1 ∷ stack_page s ∷ wrapping_difference w (sp_after_source w s) (destination_vaddr w s) ∷ [])
     (cond ((record_of s).destination_kind == 5) (1 ∷ 1 ∷ stack_page s ∷ destination_vaddr w s ∷ []) (0 ∷ [])))
 
-abbrev pub operands_tells : Settings → State → List ℕ → List (List ℕ)
-operands_tells settings s store = cond (operands_refusal settings s store == 0) (source_tells 16 s ∷ destination_tells 16 s ∷ []) []
+abbrev pub operands_tells : ℕ → Settings → State → List ℕ → List (List ℕ)
+operands_tells w settings s store = cond (operands_refusal settings s store == 0) (source_tells w s ∷ destination_tells w s ∷ []) []
 
 -- ---- what execute is to tell
 -- add and sub write their result where a location is kept, with the pointer bit off
-abbrev pub write_tells : U256 → Bool → State → List ℕ
-write_tells word pointer s =
-    cond (is_arithmetic s && is_stored s.kept.write)
+abbrev pub write_tells : ExecuteInput → State → List ℕ
+write_tells input s =
+    cond (is_arithmetic (record_of s) && is_stored s.kept.write)
     (location_case s.kept.write
-    ++ ((s.timestamp + 3) ∷ value_of (result_in (sources_in word pointer s).src0.value (sources_in word pointer s).src1.value s).0 ∷ 0 ∷ []))
+    ++ ((s.timestamp + 3) ∷ value_of (result_in (sources_in input s).src0.value (sources_in input s).src1.value s).0 ∷ 0 ∷ []))
     (0 ∷ [])
 
 -- a near call opens a frame, a return closes one; revert and panic count as panicked
 abbrev pub event_tells : State → List ℕ
-event_tells s = cond (is_near_call s) (1 ∷ []) (cond (is_return s) (2 ∷ bool_byte (not (is_ok s)) ∷ []) (0 ∷ []))
+event_tells s = cond (is_near_call (record_of s)) (1 ∷ []) (cond (is_return (record_of s)) (2 ∷ bool_byte (not (is_ok s)) ∷ []) (0 ∷ []))
 
-abbrev pub execute_tells : Settings → U256 → Bool → State → List ℕ → List (List ℕ)
-execute_tells settings word pointer s store =
-    cond (first_of (execute_checks settings word pointer s store) == 0) (write_tells word pointer s ∷ event_tells s ∷ []) []
+abbrev pub execute_tells : ℕ → Settings → ExecuteInput → State → List ℕ → List (List ℕ)
+execute_tells w settings input s store = cond (execute_refusal w settings input s store == 0) (write_tells input s ∷ event_tells s ∷ []) []

@@ -1,16 +1,15 @@
 // Execute, from the Rust's `cycle`.
 ghost use Rattle.std.specs.Prelude.{◌≡◌, if◌then◌else◌};
-ghost use Rattle.stages.specs.Execute.{execute_of, execute_store};
-ghost use Rattle.refusal.specs.Refusal.{refusal_number, first_of};
-ghost use Rattle.stages.specs.Answers.{execute_checks, execute_case};
+ghost use Rattle.stages.specs.Execute.{execute_refusal, execute_of, execute_store};
+ghost use Rattle.refusal.specs.Refusal.{refusal_number};
+ghost use Rattle.stages.specs.Answers.{execute_case};
 ghost use Rattle.stages.specs.Tells.{execute_tells};
 
-use crate::{Executed, Stage, State};
+use crate::{ExecuteInput, Executed, Stage, State};
 use addressing::{PrimitiveValue, select};
 use records::kinds::Operation;
 use records::{Settings, checks};
 use refusal::Refusal;
-use u256::U256;
 
 const NOP: u8 = Operation::Nop as u8;
 
@@ -21,26 +20,19 @@ const SUB: u8 = Operation::Sub as u8;
 const NEAR_CALL: u8 = Operation::NearCall as u8;
 
 impl State {
-    // The word and its pointer bit are looked at only where operands gave a source location.
-    pub fn execute(
-        self,
-        settings: Settings,
-        store: &mut [u32],
-        word: U256,
-        pointer: bool,
-    ) -> Executed
-        ensures { (result ≡ execute_of settings word pointer self store.old)
-            × (store.new ≡ execute_store settings word pointer self store.old)
-            × (refusal_number result.answer ≡ first_of (execute_checks settings word pointer self store.old))
-            × (execute_case result.answer ≡ execute_tells settings word pointer self store.old) }
+    pub fn execute(self, settings: Settings, store: &mut [u32], input: ExecuteInput) -> Executed
+        ensures { (result ≡ execute_of 16 settings input self store.old)
+            × (store.new ≡ execute_store 16 settings input self store.old)
+            × (refusal_number result.answer ≡ execute_refusal 16 settings input self store.old)
+            × (execute_case result.answer ≡ execute_tells 16 settings input self store.old) }
     {
         let kept = self.kept;
         let instruction = kept.instruction;
         let words = self.registers;
         let pointers = self.pointers;
         let read = PrimitiveValue {
-            value: word,
-            is_pointer: pointer,
+            value: input.word,
+            is_pointer: input.pointer,
         };
         let sources = select::sources(instruction, words, pointers, read);
         let src0 = sources.src0;

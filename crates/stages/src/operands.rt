@@ -27,9 +27,9 @@ impl State {
 
     #[tactic(auto, using(crate::proofs::OperandsLaws::places_exact, crate::proofs::OperandsLaws::places_told), unfolding(crate::specs::Operands::operands_of, crate::specs::Operands::operands_done))]
     pub fn operands(self, settings: Settings, store: &[u32]) -> Addressed
-        ensures { (result ≡ operands_of settings self store.now)
+        ensures { (result ≡ operands_of 16 settings self store.now)
             × (refusal_number result.answer ≡ operands_refusal settings self store.now)
-            × (operands_case result.answer ≡ operands_tells settings self store.now) }
+            × (operands_case result.answer ≡ operands_tells 16 settings self store.now) }
     {
         let kept = self.kept;
         let instruction = kept.instruction;

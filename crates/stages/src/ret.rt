@@ -1,6 +1,8 @@
 // Return from a local frame, after the Rust's `ret.rs` and `finish_frame`.
-ghost use Rattle.std.specs.Prelude.{◌≡◌};
-ghost use Rattle.stages.specs.Ret.{panic_flags, close_of, return_of};
+ghost use Rattle.std.specs.Prelude.{◌≡◌, false};
+ghost use Rattle.stages.specs.State.{bad_store};
+ghost use Rattle.stages.specs.Ret.{panic_flags};
+ghost use Rattle.stages.specs.Parts.{close_of, return_of};
 
 use crate::{Event, ExecuteAnswer, Executed, Staged, State};
 use frame::Frame;
@@ -21,7 +23,7 @@ fn panic_flags(panic: bool) -> Flags
 
 impl State {
     // The caller is the frame of the top row.
-    #[tactic(auto, unfolding(crate::specs::Ret::close_of, crate::specs::Ret::close_done, operations::specs::Ret::resumed_of))]
+    #[tactic(auto, unfolding(crate::specs::Parts::close_of, crate::specs::Ret::close_done, operations::specs::Ret::resumed_of))]
     fn close(self, settings: Settings, caller: Frame) -> Executed
         ensures { result ≡ close_of settings caller self }
     {
@@ -58,9 +60,10 @@ impl State {
         }
     }
 
-    #[tactic(auto, unfolding(crate::specs::Ret::return_of))]
+    // Execute has tested the store (D62), so that the row is not missing.
     pub(crate) fn ret(self, settings: Settings, store: &[u32]) -> Executed
-        ensures { result ≡ return_of settings self store.now }
+        requires { bad_store settings self store.now ≡ false }
+        ensures { result ≡ return_of 16 settings self store.now }
     {
         let depth = self.depth;
         let far = !self.current.is_local_frame;

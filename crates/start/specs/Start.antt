@@ -19,14 +19,15 @@ no_address = record { a0 = 0; a1 = 0; a2 = 0; a3 = 0; a4 = 0 }
 
 abbrev pub far_frame : ℕ → ℕ → Frame
 far_frame ergs sp = record {
+  ergs_remaining = ergs;
+  sp = sp;
+  -- the rest 0 or no
   context_u128_value = record { low = 0; high = 0 };
   this_address = no_address;
   msg_sender = no_address;
   code_address = no_address;
   base_memory_page = 0;
   code_page = 0;
-  ergs_remaining = ergs;
-  sp = sp;
   pc = 0;
   exception_handler_location = 0;
   this_shard_id = 0;
@@ -74,18 +75,19 @@ abbrev pub state_at : ℕ → List U256 → ℕ → ℕ → Record → State
 state_at stage registers ergs sp kept = record {
   registers = registers;
   current = far_frame ergs sp;
+  kept = record { instruction = kept; write = Location.None };
+  depth = 1;
+  stage = stage;
+  -- the rest 0 or no
   previous_code_word = empty_word;
   fetched_word = None;
-  kept = record { instruction = kept; write = Location.None };
   flags = no_flags;
   previous_code_memory_page = 0;
   timestamp = 0;
   monotonic_cycle_counter = 0;
-  depth = 1;
   pubdata_revert_counter = record { 0 = pos 0 };
   previous_super_pc = 0;
   pointers = replicate 15 false;
-  stage = stage;
   pending_exception = false;
 }
 
