@@ -13,7 +13,7 @@ use Rattle.records.specs.Record.{is_near_call, is_return}
 use Rattle.stages.specs.declared.State.{State}
 use Rattle.stages.specs.declared.Staged.{Staged}
 use Rattle.stages.specs.declared.ExecuteInput.{ExecuteInput}
-use Rattle.stages.specs.State.{ready, fetched, decoded, record_of}
+use Rattle.stages.specs.State.{at_fetch, at_decode, at_operands, record_of}
 use Rattle.stages.specs.Fetch.{fetch_of}
 use Rattle.stages.specs.Decode.{decode_of, kept_of}
 use Rattle.stages.specs.Operands.{operands_of}
@@ -58,7 +58,7 @@ execute_outcome x s store = outcome_in (execute_of 16 x.settings x.input s store
 
 -- at a number that is no stage's every call is refused
 abbrev pub stage_of : ℕ → machines.Reached
-stage_of n = cond (eqb n ready) machines.ready (cond (eqb n fetched) machines.fetched (cond (eqb n decoded) machines.decoded machines.addressed))
+stage_of n = cond (eqb n at_fetch) machines.ready (cond (eqb n at_decode) machines.fetched (cond (eqb n at_operands) machines.decoded machines.addressed))
 
 abbrev pub operation_of : Record → machines.FrameOperation
 operation_of r = cond (is_near_call r) machines.near_call (cond (is_return r) machines.ret machines.neither)

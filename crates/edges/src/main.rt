@@ -1,14 +1,11 @@
-// Runs the edges of document 01 and the listing's variants, and prints a line for each: its name, and what came. Nothing is said where it cannot be written.
+// Runs the edges of document 01 that are not marked P and the listing's variants, and prints a line for each: its name, and what came. Nothing is said where it cannot be written.
 #![tactic(auto)]
 
-mod case;
-mod figures;
-mod shown;
+mod returns;
 mod variants;
 
 fn main(rt: HostRuntime) {
-    figures::marked(&rt);
-    figures::unmarked(&rt);
+    returns::table(&rt);
     variants::table(&rt);
     variants::longest(&rt);
 }

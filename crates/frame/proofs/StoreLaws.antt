@@ -9,14 +9,14 @@ use native.Mathlib.Omega.{arith}
 use native.Mathlib.Nat.{zero-add, add-zero, suc-add}
 use lib.Dec.{ltb, leb}
 use lib.ListN.{length, take, drop, length-drop, length-append}
-use lib.Seq.{take_all, drop-length, drop-drop, drop_at, take-take, take-append-le, drop-append-add, length-take-le, ext_get_or, get_or-take}
+use lib.Seq.{take_all, drop-length, drop-drop, drop_at, take-take, take-append-le, drop-append-add, length-take-le, ext_get_or}
 use borrow.Author.Tests.{lt-ltb, le-ltb, le-leb, ltb-true, ltb-false}
 use Rattle.std.proofs.lemmas.Bool.{cond_both}
 use Rattle.std.proofs.lemmas.List.{drop-take, drop_all}
 use Rattle.frame.specs.declared.Frame.{Frame}
 use Rattle.frame.specs.declared.RowError.{RowError}
 use Rattle.frame.specs.Bounds.{Bounds}
-use Rattle.frame.specs.Row.{row_width, row_of, row_word, frame_of, good_words, good_row}
+use Rattle.frame.specs.Row.{row_width, row_of, row_word, frame_of, good_words}
 use Rattle.frame.specs.Store.{whole_rows, row_at, store_with, row_number, save_of, saved_store, save_refusal, read_of, read_refusal, saved_ergs}
 use Rattle.frame.proofs.RowLaws.{Ranges, bounds, good_of_frame, frame_of_row}
 

@@ -3,7 +3,7 @@
 
 ghost use Rattle.std.specs.Prelude.{◌≡◌, ◌+◌, get_or};
 ghost use Rattle.frame.specs.Store.{saved_ergs};
-ghost use Rattle.line_cycle.specs.LineCycle.{op_record, input_of, requested_state, ran_of, store_after, entries_after, printed_row};
+ghost use Rattle.line_cycle.specs.LineCycle.{op_record, input_of, requested_state, line_answer, store_after, entries_after, printed_row};
 
 use cycle::Input;
 use records::Record;
@@ -15,7 +15,7 @@ use u256::U256;
 
 // What a line's cycle gives, and whether it was refused.
 #[derive(Clone, Copy)]
-pub struct Ran {
+pub struct LineAnswer {
     pub state: State,
     pub charge: u32,
     pub answer: Result<(), Refusal>,
@@ -65,9 +65,15 @@ pub fn requested(mut state: State, want: u32) -> State
 
 // The cycle of a line, and its entry in the tally. A stage's refusal leaves the state that the stage was given, in mid-cycle; the tally's leaves the finished cycle.
 // State, store and tally are no struct, here and in `row_of`: a caller that has the three apart would make one at each call, and take it apart again.
-#[tactic(auto, unfolding(crate::specs::LineCycle::ran_of, crate::specs::LineCycle::store_after, crate::specs::LineCycle::entries_after))]
-pub fn run_line(state: State, limit: u32, store: &mut [u32], tally: &mut [u64], line: Line) -> Ran
-    ensures { (result ≡ ran_of limit line (record { state = state; store = store.old; tally = tally.old }))
+#[tactic(auto, unfolding(crate::specs::LineCycle::line_answer, crate::specs::LineCycle::store_after, crate::specs::LineCycle::entries_after))]
+pub fn run_line(
+    state: State,
+    limit: u32,
+    store: &mut [u32],
+    tally: &mut [u64],
+    line: Line,
+) -> LineAnswer
+    ensures { (result ≡ line_answer limit line (record { state = state; store = store.old; tally = tally.old }))
         × (store.new ≡ store_after limit line (record { state = state; store = store.old; tally = tally.old }))
         × (tally.new ≡ entries_after limit line (record { state = state; store = store.old; tally = tally.old })) }
 {
@@ -81,7 +87,7 @@ pub fn run_line(state: State, limit: u32, store: &mut [u32], tally: &mut [u64], 
         Ok(_) => tally::enter(tally, limit, before, after.depth, charge),
         Err(refused) => Err(refused.refusal),
     };
-    Ran {
+    LineAnswer {
         state: after,
         charge,
         answer,

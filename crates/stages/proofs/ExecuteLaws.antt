@@ -15,7 +15,7 @@ use Rattle.stages.specs.declared.State.{State}
 use Rattle.stages.specs.declared.Staged.{Staged}
 use Rattle.stages.specs.declared.ExecuteInput.{ExecuteInput}
 use Rattle.stages.specs.declared.ExecuteAnswer.{ExecuteAnswer}
-use Rattle.stages.specs.State.{addressed, record_of, bad_store, out_of_turn, refused_with, settled}
+use Rattle.stages.specs.State.{at_execute, record_of, bad_store, out_of_turn, refused_with, settled}
 use Rattle.stages.specs.Checks.{sources_in, top_frame, operation_checks, execute_checks}
 use Rattle.stages.specs.Helpers.{nop_done}
 use Rattle.stages.specs.Arithmetic.{arithmetic_done}
@@ -57,7 +57,7 @@ returning a b e good o z g n m h = grind (arith, g)
 module _ (settings : Settings) (input : ExecuteInput) (s : State) (store : List ℕ)
     (sources : Sources) (es : sources ≡ sources_in input s)
     (sizes : Bool) (ez : sizes ≡ bad_store settings s store)
-    (turn : Bool) (eu : turn ≡ out_of_turn addressed s)
+    (turn : Bool) (eu : turn ≡ out_of_turn at_execute s)
     (good : Bool) (eg : good ≡ good_record (record_of s))
     (kernel : Bool) (ek : kernel ≡ kernel_mode s.current)
     (held : Bool) (eh : held ≡ pointer_refused kernel (record_of s) sources.src0.is_pointer sources.src1.is_pointer) where

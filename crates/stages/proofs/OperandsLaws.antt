@@ -12,7 +12,7 @@ use Rattle.addressing.proofs.AddressLaws.{places_page}
 use Rattle.stages.specs.declared.State.{State}
 use Rattle.stages.specs.declared.Staged.{Staged}
 use Rattle.stages.specs.declared.OperandsAnswer.{OperandsAnswer}
-use Rattle.stages.specs.State.{decoded, record_of, bad_store, out_of_turn}
+use Rattle.stages.specs.State.{at_operands, record_of, bad_store, out_of_turn}
 use Rattle.stages.specs.Checks.{operands_checks}
 use Rattle.stages.specs.Operands.{places_in, operands_refusal, operands_done, operands_of}
 use Rattle.stages.specs.Answers.{location_case, operands_case}
@@ -31,7 +31,7 @@ places_told w s = grind arith
 
 -- some check holds, and q is the refusal of the first
 pub refused : (settings : Settings) (s : State) (store : List ℕ) (sizes : Bool) → sizes ≡ bad_store settings s store
-    → (turn : Bool) → turn ≡ out_of_turn decoded s → (good : Bool) → good ≡ good_record (record_of s) → (lacking : Bool) → lacking ≡ lacks_stack_page (record_of s) s.current.base_memory_page
+    → (turn : Bool) → turn ≡ out_of_turn at_operands s → (good : Bool) → good ≡ good_record (record_of s) → (lacking : Bool) → lacking ≡ lacks_stack_page (record_of s) s.current.base_memory_page
     → (sizes || turn || not good || lacking) ≡ true
     → (q : Refusal) → q ≡ cond sizes Refusal.Sizes (cond turn Refusal.Turn (cond (not good) Refusal.Record Refusal.Above32Bits))
     → (r : Staged OperandsAnswer) → r ≡ record { state = s; answer = Err q }

@@ -19,13 +19,13 @@ use Rattle.operations.specs.Ret.{pubdata_after, counter_after, is_outside, is_ba
 use Rattle.operations.specs.Time.{is_late}
 use Rattle.stages.specs.declared.State.{State}
 use Rattle.stages.specs.declared.ExecuteInput.{ExecuteInput}
-use Rattle.stages.specs.State.{ready, fetched, decoded, addressed, is_ended, record_of, bad_store, out_of_turn}
+use Rattle.stages.specs.State.{at_fetch, at_decode, at_operands, at_execute, is_ended, record_of, bad_store, out_of_turn}
 
 -- ---- fetch
 -- 4, "ended and pending"
 abbrev pub fetch_checks : Settings → State → List ℕ → List Check
 fetch_checks settings s store =
-    (bad_store settings s store refuses 1) ∷ (out_of_turn ready s refuses 2) ∷ ((is_ended s && s.pending_exception) refuses 4) ∷ []
+    (bad_store settings s store refuses 1) ∷ (out_of_turn at_fetch s refuses 2) ∷ ((is_ended s && s.pending_exception) refuses 4) ∷ []
 
 -- ---- decode
 -- the flags that the plain record sets
@@ -35,7 +35,7 @@ errors_of settings records s = error_flags s.current s.depth settings.depth_limi
 abbrev pub decode_checks : Settings → Records → State → List ℕ → List Check
 decode_checks settings records s store =
     (bad_store settings s store refuses 1)
-    ∷ (out_of_turn fetched s refuses 2)
+    ∷ (out_of_turn at_decode s refuses 2)
     ∷ (bad_records records (is_ended s) s.pending_exception (any_error (errors_of settings records s)) refuses 3)
     ∷ []
 
@@ -44,7 +44,7 @@ decode_checks settings records s store =
 abbrev pub operands_checks : Settings → State → List ℕ → List Check
 operands_checks settings s store =
     (bad_store settings s store refuses 1)
-    ∷ (out_of_turn decoded s refuses 2)
+    ∷ (out_of_turn at_operands s refuses 2)
     ∷ (not (good_record (record_of s)) refuses 3)
     ∷ (lacks_stack_page (record_of s) s.current.base_memory_page refuses 14)
     ∷ []
@@ -109,7 +109,7 @@ operation_checks ret call sum w settings s store =
 abbrev pub execute_checks : ℕ → Settings → ExecuteInput → State → List ℕ → List Check
 execute_checks w settings input s store =
     (bad_store settings s store refuses 1)
-    ∷ (out_of_turn addressed s refuses 2)
+    ∷ (out_of_turn at_execute s refuses 2)
     ∷ (not (good_record (record_of s)) refuses 3)
     ∷ (nat_eq (record_of s).operation 5 refuses 5)
     ∷ (pointer_in input s refuses 6)

@@ -14,7 +14,7 @@ use Rattle.decoding.specs.Condition.{condition_holds}
 use Rattle.stages.specs.declared.State.{State}
 use Rattle.stages.specs.declared.Staged.{Staged}
 use Rattle.stages.specs.declared.DecodeAnswer.{DecodeAnswer}
-use Rattle.stages.specs.State.{decoded, is_ended, refused_with, settled}
+use Rattle.stages.specs.State.{at_operands, is_ended, refused_with, settled}
 use Rattle.stages.specs.Checks.{errors_of, decode_checks}
 
 -- the price of the plain record, and the charge
@@ -42,7 +42,7 @@ decoded_state s ergs instruction = record {
   kept = record { instruction = instruction; write = Location.None };
   previous_code_memory_page = s.current.code_page;
   previous_super_pc = cond (is_some s.fetched_word) (super_pc s.current.pc) s.previous_super_pc;
-  stage = decoded;
+  stage = at_operands;
   pending_exception = false;
   -- the rest as it was
   registers = s.registers;

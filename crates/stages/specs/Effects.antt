@@ -10,7 +10,7 @@ use Rattle.records.specs.declared.Record.{Record}
 use Rattle.records.specs.declared.Flags.{Flags}
 use Rattle.addressing.specs.declared.Location.{Location}
 use Rattle.stages.specs.declared.State.{State}
-use Rattle.stages.specs.State.{ready}
+use Rattle.stages.specs.State.{at_fetch}
 
 -- "the record all 0"
 abbrev pub no_record : Record
@@ -45,7 +45,7 @@ finished_state s time counter = record {
   kept = record { instruction = no_record; write = Location.None };
   timestamp = time;
   monotonic_cycle_counter = counter;
-  stage = ready;
+  stage = at_fetch;
   -- the rest as it was
   registers = s.registers;
   current = s.current;

@@ -11,7 +11,7 @@ use Rattle.addressing.specs.Address.{in_code}
 use Rattle.stages.specs.declared.State.{State}
 use Rattle.stages.specs.declared.Staged.{Staged}
 use Rattle.stages.specs.declared.FetchAnswer.{FetchAnswer}
-use Rattle.stages.specs.State.{fetched, is_ended, refused_with, settled}
+use Rattle.stages.specs.State.{at_decode, is_ended, refused_with, settled}
 use Rattle.stages.specs.Checks.{fetch_checks}
 
 abbrev pub code_wanted : State → Bool
@@ -43,7 +43,7 @@ code_word s word = unwrap_or (word_read s word) s.previous_code_word
 unfoldable pub fetched_state : State → Option U256 → State
 fetched_state s read = record {
   fetched_word = read;
-  stage = fetched;
+  stage = at_decode;
   -- the rest as it was
   registers = s.registers;
   current = s.current;

@@ -10,7 +10,7 @@ use Rattle.addressing.specs.Address.{places_of}
 use Rattle.stages.specs.declared.State.{State}
 use Rattle.stages.specs.declared.Staged.{Staged}
 use Rattle.stages.specs.declared.OperandsAnswer.{OperandsAnswer}
-use Rattle.stages.specs.State.{addressed, record_of, refused_with, settled}
+use Rattle.stages.specs.State.{at_execute, record_of, refused_with, settled}
 use Rattle.stages.specs.Checks.{operands_checks}
 
 abbrev pub stack_page : State → ℕ
@@ -27,7 +27,7 @@ unfoldable pub addressed_state : State → ℕ → Location → State
 addressed_state s sp write = record {
   current = with_sp s.current sp;
   kept = record { instruction = s.kept.instruction; write = write };
-  stage = addressed;
+  stage = at_execute;
   -- the rest as it was
   registers = s.registers;
   previous_code_word = s.previous_code_word;

@@ -1,6 +1,6 @@
 -- Return from a local frame. Document 01: "A local return of any kind, panic too, adds all the ergs the closed frame holds to its caller's". The
 -- flags are cleared; a panic then sets overflow.
-use Rattle.std.specs.Prelude.{ℕ, ◌+◌, ◌-◌, Bool, false, not, None, Some, Ok, ◌==◌}
+use Rattle.std.specs.Prelude.{◌+◌, ◌-◌, Bool, false, not, None, Some, Ok, ◌==◌}
 use Rattle.frame.specs.declared.Frame.{Frame}
 use Rattle.frame.specs.declared.PubdataCost.{PubdataCost}
 use Rattle.records.specs.declared.Settings.{Settings}

@@ -9,23 +9,23 @@ use Rattle.stages.specs.declared.State.{State}
 use Rattle.stages.specs.declared.Staged.{Staged}
 
 -- the numbers of the stages reached, and of the stage that comes next then
-abbrev pub ready : ℕ
-ready = 0
+abbrev pub at_fetch : ℕ
+at_fetch = 0
 
-abbrev pub fetched : ℕ
-fetched = 1
+abbrev pub at_decode : ℕ
+at_decode = 1
 
-abbrev pub decoded : ℕ
-decoded = 2
+abbrev pub at_operands : ℕ
+at_operands = 2
 
-abbrev pub addressed : ℕ
-addressed = 3
+abbrev pub at_execute : ℕ
+at_execute = 3
 
 abbrev pub stage_number : Stage → ℕ
-stage_number Stage.Fetch = ready
-stage_number Stage.Decode = fetched
-stage_number Stage.Operands = decoded
-stage_number Stage.Execute = addressed
+stage_number Stage.Fetch = at_fetch
+stage_number Stage.Decode = at_decode
+stage_number Stage.Operands = at_operands
+stage_number Stage.Execute = at_execute
 
 abbrev pub is_ended : State → Bool
 is_ended s = s.depth == 0

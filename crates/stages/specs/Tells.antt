@@ -1,5 +1,5 @@
 -- What the query and the stages are to tell, in the numbers of Answers.antt, each by document 01's rule; a refusal tells nothing.
-use Rattle.std.specs.Prelude.{ℕ, ◌+◌, min, Bool, cond, not, ◌&&◌, ◌||◌, List, [], ◌∷◌, ◌++◌, ◌==◌, nat_lt}
+use Rattle.std.specs.Prelude.{ℕ, ◌+◌, min, cond, not, ◌&&◌, ◌||◌, List, [], ◌∷◌, ◌++◌, ◌==◌, nat_lt}
 use mir.Val.{bool_byte}
 use Rattle.u256.specs.declared.U256.{U256}
 use Rattle.u256.specs.U256.{value_of}

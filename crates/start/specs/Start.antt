@@ -1,7 +1,7 @@
 -- States and records that are 0 but for what is given: the start of nearbook's listing and the edges. Document 01: "multiplier 1, time step 4"; "It starts at depth 1
 -- in a far frame, an ergs-free frame below. All of the state, records and words that no line sets is 0 or no, but for the masked records' operations and a call's
 -- register."
-use Rattle.std.specs.Prelude.{ℕ, ◌*◌, Bool, false, List, None, pos, replicate}
+use Rattle.std.specs.Prelude.{ℕ, ◌*◌, false, List, None, pos, replicate}
 use Rattle.u256.specs.declared.U256.{U256}
 use Rattle.u256.specs.U256.{empty_word}
 use Rattle.frame.specs.declared.Address.{Address}

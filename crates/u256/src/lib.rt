@@ -41,7 +41,7 @@ impl U256 {
     pub fn is_zero(self) -> bool
         ensures { result ≡ is_zero self }
     {
-        self == U256::default()
+        self == empty_word()
     }
 
     // A function for each width, named by it: a trait, as the benchmarks have for nineteen fields, would name it in the type at each call. The casts keep the low bits,
