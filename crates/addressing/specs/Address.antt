@@ -5,7 +5,7 @@ use Rattle.std.specs.Prelude.{ℕ, ◌+◌, ◌^◌, Bool, cond, ◌&&◌, ◌||
 use Rattle.u256.specs.declared.U256.{U256}
 use Rattle.u256.specs.U256.{low_of}
 use Rattle.u256.specs.Word.{wrapping_sum, wrapping_difference}
-use Rattle.records.specs.declared.kinds.MemoryType.{MemoryType}
+use Rattle.addressing.specs.declared.MemoryType.{MemoryType}
 use Rattle.records.specs.declared.Record.{Record}
 use Rattle.addressing.specs.declared.Location.{Location}
 use Rattle.addressing.specs.declared.Located.{Located}
@@ -30,7 +30,7 @@ abbrev pub location_in : MemoryType → ℕ → ℕ → Location
 location_in MemoryType.Stack page index = on_stack page index
 location_in MemoryType.Code page index = in_code page index
 
--- refusal 14: "page of a stack kind", which "is base plus 1", above 32 bits
+-- refusal 14: "page of a stack kind", above 32 bits. "Stack page is base plus 1": stages/specs/Operands.antt has the sum itself.
 abbrev pub lacks_stack_page : Record → ℕ → Bool
 lacks_stack_page r base = (is_stack_kind r.source_kind || is_stack_kind r.destination_kind) && nat_le (2 ^ 32) (base + 1)
 

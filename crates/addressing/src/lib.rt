@@ -6,6 +6,13 @@ pub mod select;
 
 use u256::U256;
 
+// The kinds of memory; cast to its number where a location is written: a `From` would hold that cast and no more.
+#[derive(Clone, Copy, Debug, PartialEq, Eq)]
+pub enum MemoryType {
+    Stack = 1,
+    Code,
+}
+
 // No location, or a memory kind (1 stack, 2 code), a page and an index. The narrow field first: a hole before it slows each copy down.
 // The paper names this form, and no `Option` of a struct; the kind is a number, since a state with any number has to be answered.
 #[derive(Clone, Copy)]

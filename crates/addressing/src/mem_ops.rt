@@ -4,8 +4,8 @@ ghost use Rattle.std.specs.Prelude.{◌≡◌, if◌then◌else◌, nat_le};
 ghost use Rattle.registers.specs.Registers.{register_of};
 ghost use Rattle.addressing.specs.Address.{location_in, vaddr_of, is_stack_kind, lacks_stack_page, source_at, destination_at, source_read, places_of};
 
-use crate::{Located, Location, Places};
-use records::kinds::{MemoryType, OperandKind};
+use crate::{Located, Location, MemoryType, Places};
+use records::kinds::OperandKind;
 use records::{Record, checks};
 use u256::U256;
 

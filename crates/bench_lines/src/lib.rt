@@ -9,7 +9,7 @@ ghost use Rattle.bench_lines.specs.Bench.{CycleGiven, start_progress, cycles_of,
 mod line;
 
 use cycle::Cycled;
-pub use line::{LINE, records_of, want_of, word_of};
+pub use line::{LINE, line_records, want_of, word_of};
 use records::Flags;
 use refusal::Refusal;
 use stages::State;

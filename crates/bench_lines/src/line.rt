@@ -120,7 +120,7 @@ fn whole_records(line: &[u64]) -> Option<Records>
 
 // A line that is lent with a length known to the compiler is read with no test.
 #[tactic(auto, unfolding(crate::specs::Line::line_records))]
-pub fn records_of(line: &[u64]) -> Records
+pub fn line_records(line: &[u64]) -> Records
     ensures { result ≡ line_records line.now }
 {
     whole_records(line).unwrap_or_default()

@@ -30,7 +30,7 @@ impl Benchmark<u64, LINE> for Opaque {
                 pointer: false,
             },
             settings: start::settings_of(self.limit, 1),
-            records: bench_lines::records_of(line),
+            records: bench_lines::line_records(line),
         };
         let given = line_cycle::requested(state, bench_lines::want_of(line));
         CycleOutcome::from(cycle::cycle(given, input, store))

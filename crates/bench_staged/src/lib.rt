@@ -78,7 +78,7 @@ impl Benchmark<u64, LINE> for Served<'_> {
     #[tactic(auto, unfolding(crate::specs::Staged::staged_step))]
     fn step(&self, state: State, line: &[u64; LINE], store: &mut [u32]) -> CycleOutcome {
         let settings = start::settings_of(self.limit, 1);
-        let records = bench_lines::records_of(line);
+        let records = bench_lines::line_records(line);
         let given = line_cycle::requested(state, bench_lines::want_of(line));
         cycle_by_stages(given, settings, records, self.words, store)
     }

@@ -35,7 +35,7 @@ use Rattle.stages.specs.Arithmetic.{arithmetic_done}
 use Rattle.stages.specs.Ret.{close_done}
 use Rattle.stages.specs.Execute.{execute_done, execute_of, execute_store}
 use Rattle.lists.specs.Machine.{Outcome, near_call, charge_of}
-use Rattle.lists.specs.Lists.{Call, fetch, decode, operands, execute, Called, called, trace, finished_of, Cycle, events_of, charge, charges, operation, opened, closed, sum, before, result, outcome_of, InTurn}
+use Rattle.lists.specs.Lists.{Call, fetch, decode, operands, execute, CallMade, made, trace, finished_of, Cycle, calls_made, charge, charges, operation, opened, closed, sum, before, result, outcome_of, InTurn}
 use Rattle.lists.specs.Claims.{ClosesWithLast, CallerResumes, span}
 use Rattle.lists.proofs.Resume.{callers_resume}
 use Rattle.claims.specs.Core.{lasting_of, core, execute_outcome}
@@ -60,11 +60,11 @@ abbrev pub start : State
 start = start_state 1000 0
 
 -- of a finished decode the charge; of a finished execute the depth, the ergs of the frame that is current then, and those of all frames
-abbrev pub figure : Called core → List ℕ
-figure (called (fetch x) s store) = []
-figure (called (decode x) s store) = charge_of core x s ∷ []
-figure (called (operands x) s store) = []
-figure (called (execute x) s store) =
+abbrev pub figure : CallMade core → List ℕ
+figure (made (fetch x) s store) = []
+figure (made (decode x) s store) = charge_of core x s ∷ []
+figure (made (operands x) s store) = []
+figure (made (execute x) s store) =
     let o = execute_outcome x s store in
     o.state.depth ∷ o.state.current.ergs_remaining ∷ (o.state.current.ergs_remaining + saved_ergs o.state.depth o.store) ∷ []
 
@@ -81,8 +81,8 @@ unfolding finished_of trace charge_of with_ergs with_sp with_pc kernel_mode low_
 figures = refl
 
 -- ---- the first near call, from its own cycle to the one that closes its frame: the premises of the claim hold, and so does what it says
-abbrev events : List (Called core)
-events = finished_of core (trace core listing start (empty_store 4))
+abbrev made_calls : List (CallMade core)
+made_calls = finished_of core (trace core listing start (empty_store 4))
 
 -- what calls from the start lead to
 abbrev pub run : List (Call core) → State → List ℕ → Outcome State
@@ -118,8 +118,8 @@ abbrev pub calling : List (Cycle core)
 calling = span core call (add ∷ []) close
 
 in_turn : InTurn core listing start (empty_store 4) calling
-unfolding events_of finished_of trace charge_of with_ergs with_sp with_pc kernel_mode low_of checked_of word_of signed_of overflowing_sum overflowing_difference is_zero code_bits bad_records error_flags source_at destination_at places_of sources_of caller_of opened_of resumed_with resumed_of saved_store flags_after finished_state moved_state written_state switched_state fetched_state fetch_done fetch_of decoded_state decode_done decode_of addressed_state operands_done operands_of nop_done near_call_done arithmetic_done close_done execute_done execute_of execute_store
-in_turn = record { earlier = take 4 events; later = drop 16 events; found = refl }
+unfolding calls_made finished_of trace charge_of with_ergs with_sp with_pc kernel_mode low_of checked_of word_of signed_of overflowing_sum overflowing_difference is_zero code_bits bad_records error_flags source_at destination_at places_of sources_of caller_of opened_of resumed_with resumed_of saved_store flags_after finished_state moved_state written_state switched_state fetched_state fetch_done fetch_of decoded_state decode_done decode_of addressed_state operands_done operands_of nop_done near_call_done arithmetic_done close_done execute_done execute_of execute_store
+in_turn = record { earlier = take 4 made_calls; later = drop 16 made_calls; found = refl }
 
 opens_frame : operation core call ≡ near_call
 unfolding operation finished_of trace charge_of with_ergs with_sp with_pc kernel_mode low_of checked_of word_of signed_of overflowing_sum overflowing_difference is_zero code_bits bad_records error_flags source_at destination_at places_of sources_of caller_of opened_of resumed_with resumed_of saved_store flags_after finished_state moved_state written_state switched_state fetched_state fetch_done fetch_of decoded_state decode_done decode_of addressed_state operands_done operands_of nop_done near_call_done arithmetic_done close_done execute_done execute_of execute_store

@@ -38,7 +38,7 @@ use Rattle.lists.specs.Machine as machines
 use Rattle.lists.specs.Machine.{Outcome}
 use Rattle.lists.specs.Lists.{execute}
 use Rattle.lists.specs.Laws.{Advances, Performs}
-use Rattle.claims.specs.Core.{core, CoreExecute, outcome_in, execute_outcome, stage_of, operation_of, lasting_of}
+use Rattle.claims.specs.Core.{core, CoreExecuteArgs, outcome_in, execute_outcome, stage_of, operation_of, lasting_of}
 use Rattle.claims.specs.Answers.{execute_numbers}
 use Rattle.claims.proofs.Views.{View, done, both, checked}
 use Rattle.claims.proofs.Stages.{turn}
@@ -74,7 +74,7 @@ ret_test o = grind (arith, nat_tests)
 ret_kind : (o : ℕ) → eqb o 4 ≡ true → kind o ≡ machines.ret
 ret_kind o = grind (arith, nat_tests)
 
-module _ (x : CoreExecute) (s : State) (store : List ℕ) where
+module _ (x : CoreExecuteArgs) (s : State) (store : List ℕ) where
   -- what a finished call does
   abbrev Done : Outcome State → Type 0
   Done o = Advances core (execute x) s o × Performs core (core.kept s) x s store o
@@ -135,7 +135,7 @@ module _ (x : CoreExecute) (s : State) (store : List ℕ) where
           rw e (record { depth_down = omega (arith, eqb-false s.depth 0 d); lasting_back = refl; ergs_back = λ l. refl; store_same = refl }),
         )
 
-pub execute_view : (x : CoreExecute) (s : State) (store : List ℕ)
+pub execute_view : (x : CoreExecuteArgs) (s : State) (store : List ℕ)
     → View execute_numbers s store (execute_outcome x s store)
     (Advances core (execute x) s (execute_outcome x s store) × Performs core (core.kept s) x s store (execute_outcome x s store))
 unfolding execute_of execute_store execute_done

@@ -30,7 +30,7 @@ use Rattle.stages.specs.Arithmetic.{arithmetic_done}
 use Rattle.stages.specs.Ret.{close_done}
 use Rattle.stages.specs.Execute.{execute_done, execute_of, execute_store}
 use Rattle.lists.specs.Machine.{FrameOperation, near_call, ret, neither, charge_of}
-use Rattle.lists.specs.Lists.{Call, trace, finished_of, Cycle, events_of, charge, charges, operation, opened, closed, sum, before, result, share, InTurn}
+use Rattle.lists.specs.Lists.{Call, trace, finished_of, Cycle, calls_made, charge, charges, operation, opened, closed, sum, before, result, share, InTurn}
 use Rattle.lists.specs.Claims.{ClosesWithLast, CallerResumes, span}
 use Rattle.lists.proofs.Resume.{callers_resume}
 use Rattle.claims.specs.Core.{core}
@@ -60,7 +60,7 @@ cycles = span core outer (inner ∷ short ∷ []) last
 
 -- All that the claim asks of the four cycles, and its figures: the outer caller holds 1000 before and 845 after, of which it kept 675 back and 300 were passed. The
 -- inner frame loses the 100 ergs that it held and no more.
-pub figures : (finished_of core (trace core calls start (empty_store 4)) ≡ events_of core cycles)
+pub figures : (finished_of core (trace core calls start (empty_store 4)) ≡ calls_made core cycles)
     × (map (operation core) cycles ≡ near_call ∷ near_call ∷ ret ∷ ret ∷ [])
     × (map (charge core) cycles ≡ 25 ∷ 25 ∷ 100 ∷ 5 ∷ [])
     × (map (λ (i : ℕ). opened core (take i cycles)) (1 ∷ 2 ∷ 3 ∷ 4 ∷ []) ≡ 1 ∷ 2 ∷ 2 ∷ 2 ∷ [])
@@ -70,11 +70,11 @@ pub figures : (finished_of core (trace core calls start (empty_store 4)) ≡ eve
     × (core.ergs (result core last).state ≡ 845)
     × (share core outer ≡ 675)
     × (core.passes outer.execute.input outer.execute.state ≡ 300)
-unfolding events_of operation opened closed sum charge charges share finished_of trace charge_of with_ergs with_sp with_pc kernel_mode low_of checked_of word_of signed_of overflowing_sum overflowing_difference is_zero code_bits bad_records error_flags source_at destination_at places_of sources_of caller_of opened_of resumed_with resumed_of saved_store flags_after finished_state moved_state written_state switched_state fetched_state fetch_done fetch_of decoded_state decode_done decode_of addressed_state operands_done operands_of nop_done near_call_done arithmetic_done close_done execute_done execute_of execute_store
+unfolding calls_made operation opened closed sum charge charges share finished_of trace charge_of with_ergs with_sp with_pc kernel_mode low_of checked_of word_of signed_of overflowing_sum overflowing_difference is_zero code_bits bad_records error_flags source_at destination_at places_of sources_of caller_of opened_of resumed_with resumed_of saved_store flags_after finished_state moved_state written_state switched_state fetched_state fetch_done fetch_of decoded_state decode_done decode_of addressed_state operands_done operands_of nop_done near_call_done arithmetic_done close_done execute_done execute_of execute_store
 figures = (refl, refl, refl, refl, refl, refl, refl, refl, refl, refl)
 
 in_turn : InTurn core calls start (empty_store 4) cycles
-unfolding events_of
+unfolding calls_made
 in_turn = record { earlier = []; later = []; found = figures.0 }
 
 opens_frame : operation core outer ≡ near_call

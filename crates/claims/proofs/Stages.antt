@@ -17,7 +17,7 @@ use Rattle.stages.specs.Operands.{addressed_state, operands_done, operands_of}
 use Rattle.lists.specs.Machine.{charge_of}
 use Rattle.lists.specs.Lists.{fetch, decode, operands}
 use Rattle.lists.specs.Laws.{Advances, Spends}
-use Rattle.claims.specs.Core.{core, CoreFetch, CoreDecode, fetch_outcome, decode_outcome, operands_outcome, stage_of, lasting_of}
+use Rattle.claims.specs.Core.{core, CoreFetchArgs, CoreDecodeArgs, fetch_outcome, decode_outcome, operands_outcome, stage_of, lasting_of}
 use Rattle.claims.specs.Answers.{fetch_numbers, decode_numbers, operands_numbers}
 use Rattle.claims.proofs.Views.{View, by_checks}
 
@@ -25,7 +25,7 @@ use Rattle.claims.proofs.Views.{View, by_checks}
 pub turn : (n stage : ℕ) → not (eqb n stage) ≡ false → stage_of n ≡ stage_of stage
 turn n stage e = ap stage_of (eqb-true n stage (not-false (eqb n stage) e))
 
-pub fetch_view : (x : CoreFetch) (s : State) (store : List ℕ)
+pub fetch_view : (x : CoreFetchArgs) (s : State) (store : List ℕ)
     → View fetch_numbers s store (fetch_outcome x s store) (Advances core (fetch x) s (fetch_outcome x s store) × Spends core 0 s store (fetch_outcome x s store))
 unfolding fetch_of fetch_done fetched_state
 fetch_view x s store =
@@ -40,7 +40,7 @@ fetch_view x s store =
 charged : (held price : ℕ) → held - price + min price held ≡ held
 charged held price = omega arith
 
-pub decode_view : (x : CoreDecode) (s : State) (store : List ℕ)
+pub decode_view : (x : CoreDecodeArgs) (s : State) (store : List ℕ)
     → View decode_numbers s store (decode_outcome x s store)
     (Advances core (decode x) s (decode_outcome x s store)
     × Spends core (charge_of core x s) s store (decode_outcome x s store)

@@ -10,7 +10,7 @@ use Rattle.cycle.specs.Cycle.{decode_charge}
 use Rattle.lists.specs.Machine.{Outcome, finished, charge_of}
 use Rattle.lists.specs.Lists.{Call, fetch, decode, operands, execute, outcome_of}
 use Rattle.lists.specs.Laws.{Unchanged}
-use Rattle.claims.specs.Core.{core, CoreDecode, decode_outcome}
+use Rattle.claims.specs.Core.{core, CoreDecodeArgs, decode_outcome}
 
 abbrev pub is_one_of : ℕ → List ℕ → Bool
 is_one_of n [] = false
@@ -60,5 +60,5 @@ EveryEntryAnswers =
 -- Document 01: "The answer gives the flags and the charge." Where decode finishes, that charge is the one that demand 3 counts.
 abbrev pub ChargeAnswered : Type 0
 ChargeAnswered =
-    (x : CoreDecode) (s : State) (store : List ℕ) → finished (decode_outcome x s store) ≡ true
+    (x : CoreDecodeArgs) (s : State) (store : List ℕ) → finished (decode_outcome x s store) ≡ true
     → decode_charge (decode_of x.settings x.records s store).answer ≡ charge_of core x s

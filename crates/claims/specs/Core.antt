@@ -27,15 +27,15 @@ refused_by (Ok answer) = none
 refused_by (Err refusal) = some (paper_number refusal)
 
 -- what each stage is given besides the state and the store
-pub record CoreFetch : Type 0 where
+pub record CoreFetchArgs : Type 0 where
   pub settings : Settings
   pub word : U256
 
-pub record CoreDecode : Type 0 where
+pub record CoreDecodeArgs : Type 0 where
   pub settings : Settings
   pub records : Records
 
-pub record CoreExecute : Type 0 where
+pub record CoreExecuteArgs : Type 0 where
   pub settings : Settings
   pub input : ExecuteInput
 
@@ -44,16 +44,16 @@ abbrev pub outcome_in : {A : Type 0} → Staged A → List ℕ → machines.Outc
 outcome_in r after = record { refusal = refused_by r.answer; state = r.state; store = after }
 
 -- fetch, decode and operands leave the store as it is
-abbrev pub fetch_outcome : CoreFetch → State → List ℕ → machines.Outcome State
+abbrev pub fetch_outcome : CoreFetchArgs → State → List ℕ → machines.Outcome State
 fetch_outcome x s store = outcome_in (fetch_of x.settings x.word s store) store
 
-abbrev pub decode_outcome : CoreDecode → State → List ℕ → machines.Outcome State
+abbrev pub decode_outcome : CoreDecodeArgs → State → List ℕ → machines.Outcome State
 decode_outcome x s store = outcome_in (decode_of x.settings x.records s store) store
 
 abbrev pub operands_outcome : Settings → State → List ℕ → machines.Outcome State
 operands_outcome settings s store = outcome_in (operands_of 16 settings s store) store
 
-abbrev pub execute_outcome : CoreExecute → State → List ℕ → machines.Outcome State
+abbrev pub execute_outcome : CoreExecuteArgs → State → List ℕ → machines.Outcome State
 execute_outcome x s store = outcome_in (execute_of 16 x.settings x.input s store) (execute_store 16 x.settings x.input s store)
 
 -- at a number that is no stage's every call is refused
@@ -92,10 +92,10 @@ lasting_of f = record {
 abbrev pub core : machines.Machine
 core = record {
   State = State;
-  FetchCall = CoreFetch;
-  DecodeCall = CoreDecode;
-  OperandsCall = Settings;
-  ExecuteCall = CoreExecute;
+  FetchArgs = CoreFetchArgs;
+  DecodeArgs = CoreDecodeArgs;
+  OperandsArgs = Settings;
+  ExecuteArgs = CoreExecuteArgs;
   fetch_of = fetch_outcome;
   decode_of = decode_outcome;
   operands_of = operands_outcome;

@@ -17,6 +17,7 @@ use Rattle.stages.specs.declared.ExecuteInput.{ExecuteInput}
 use Rattle.stages.specs.declared.OperandsAnswer.{OperandsAnswer}
 use Rattle.stages.specs.declared.Event.{Event}
 use Rattle.stages.specs.declared.ExecuteAnswer.{ExecuteAnswer}
+use Rattle.stages.specs.State.{at_fetch, at_decode, at_operands, at_execute}
 use Rattle.stages.specs.Effects.{moved_state, no_record}
 use Rattle.stages.specs.Fetch.{query_of, fetch_of}
 use Rattle.stages.specs.Decode.{decode_of}
@@ -46,7 +47,7 @@ decodes ergs price = figures after.state after.answer
   where
     after : Staged DecodeAnswer
     after =
-        decode_of (settings_of 4 1) (records_of (instruction 1 0 0 0 price)) (state_at 1 (replicate 15 empty_word) ergs 0 no_record)
+        decode_of (settings_of 4 1) (records_of (instruction 1 0 0 0 price)) (state_at at_decode (replicate 15 empty_word) ergs 0 no_record)
         (empty_store 4)
 
 -- a near call that requests so much, at this multiplier and so many ergs: the depth afterwards, what is given, and what is kept in the caller's row
@@ -68,7 +69,7 @@ calls multiplier held want =
     division after.state after.answer (row_at (execute_store 16 (settings_of 4 multiplier) no_input s (empty_store 4)) 1)
   where
     s : State
-    s = state_at 3 (one_word want ∷ replicate 14 empty_word) held 0 (instruction 3 0 0 1 0)
+    s = state_at at_execute (one_word want ∷ replicate 14 empty_word) held 0 (instruction 3 0 0 1 0)
 
     after : Staged ExecuteAnswer
     after = execute_of 16 (settings_of 4 multiplier) no_input s (empty_store 4)
@@ -108,13 +109,13 @@ abbrev pub addresses : ℕ → ℕ → ℕ → ℕ → ℕ → List ℕ
 addresses source destination imm0 imm1 sp = places after.state after.answer
   where
     after : Staged OperandsAnswer
-    after = operands_of 16 (settings_of 4 1) (state_at 2 (replicate 15 empty_word) 0 sp (placed source destination imm0 imm1)) (empty_store 4)
+    after = operands_of 16 (settings_of 4 1) (state_at at_operands (replicate 15 empty_word) 0 sp (placed source destination imm0 imm1)) (empty_store 4)
 
 -- an operation (1 add, 2 sub) of registers 1 and 2 into register 3, with set flags: the result, then overflow, equal, greater
 abbrev bits : Flags → List ℕ
 bits f = bool_byte f.overflow_or_less_than_flag ∷ bool_byte f.equality_flag ∷ bool_byte f.greater_than_flag ∷ []
 
--- its record
+-- the record of such an operation
 abbrev combining : ℕ → Record
 combining operation = record {
   operation = operation;
@@ -145,15 +146,15 @@ combines operation a b = value_of (register_of after.registers 3) ∷ bits after
     after : State
     after =
         (execute_of 16 (settings_of 4 1) no_input
-        (state_at 3 (words_of a ∷ words_of b ∷ replicate 13 empty_word) 0 0 (combining operation)) (empty_store 4)).state
+        (state_at at_execute (words_of a ∷ words_of b ∷ replicate 13 empty_word) 0 0 (combining operation)) (empty_store 4)).state
 
 -- a nop at this pc: the code word that the query asks for, as a location; what fetch answers, 0 for code and the part of the word (each part holds its number, the
 -- highest 64 bits 0); and pc afterwards
 abbrev pub steps : ℕ → List ℕ
 steps pc =
-    location_case (query_of (at 0))
-    ++ (fetch_case (fetch_of (settings_of 4 1) (record { w0 = 3; w1 = 2; w2 = 1; w3 = 0 }) (at 0) (empty_store 4)).answer
-    ++ ((execute_of 16 (settings_of 4 1) no_input (at 3) (empty_store 4)).state.current.pc ∷ []))
+    location_case (query_of (at at_fetch))
+    ++ (fetch_case (fetch_of (settings_of 4 1) (record { w0 = 3; w1 = 2; w2 = 1; w3 = 0 }) (at at_fetch) (empty_store 4)).answer
+    ++ ((execute_of 16 (settings_of 4 1) no_input (at at_execute) (empty_store 4)).state.current.pc ∷ []))
   where
     at : ℕ → State
     at stage = moved_state (state_at stage (replicate 15 empty_word) 0 0 no_record) pc

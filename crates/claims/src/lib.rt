@@ -30,7 +30,7 @@ pub fn callers_resume()
     ensures { CallersResume core }
 {}
 
-// No finished call escapes demand 3 but for part of a cycle at either end of the list.
+// Every finished call is of a cycle that demand 3 is about, but for part of a cycle at either end of the list.
 pub fn cycles_cover()
     ensures { CyclesCover core }
 {}

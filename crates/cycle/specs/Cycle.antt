@@ -1,5 +1,5 @@
 -- A whole cycle. Document 01: "A cycle is a fetch, decode, operands and execute of the list, all finished, in turn". Each stage is given the state that the one before
--- it handed back; the first refusal ends it.
+-- it handed back; the first refusal ends it. The cycles in a list of calls are in lists/specs/Lists.antt.
 use Rattle.std.specs.Prelude.{ℕ, Bool, cond, ◌&&◌, List, Result, Ok, Err}
 use Rattle.std.specs.Result.{is_ok}
 use Rattle.refusal.specs.declared.Refusal.{Refusal}

@@ -13,7 +13,7 @@ use stages::{
 };
 use u256::U256;
 
-// What a cycle is given beside the state and the store: the code word that fetch is handed, and what execute is.
+// What a cycle is given besides the state and the store: the code word for fetch, the input of execute, and what all stages and decode are given.
 #[derive(Clone, Copy)]
 pub struct Input {
     pub code: U256,

@@ -1,5 +1,5 @@
 -- Price and error flags. Document 01: "Price is 0 when ended. Price above ergs: ergs become 0 and NOT_ENOUGH_ERGS is set. Flags also for explicit panic, kernel
--- only, static, depth equal to limit."
+-- only, static, depth equal to limit." The ergs that are left, the charge and the record that is kept are in stages/specs/Decode.antt.
 use Rattle.std.specs.Prelude.{ℕ, Bool, cond, not, ◌&&◌, ◌||◌, ◌==◌, nat_lt}
 use Rattle.frame.specs.declared.Frame.{Frame}
 use Rattle.frame.specs.Kernel.{kernel_mode}

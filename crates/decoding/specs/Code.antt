@@ -1,5 +1,5 @@
 -- Code words. Document 01: "Super pc is pc div 4, sub pc is pc mod 4; sub pc 0 is the highest 64 bits."
-use Rattle.std.specs.Prelude.{ℕ, ◌-◌, ◌*◌, ◌/◌, ◌%◌, ◌^◌, Bool, not, ◌&&◌, ◌||◌, ◌==◌}
+use Rattle.std.specs.Prelude.{ℕ, ◌-◌, ◌*◌, ◌/◌, ◌%◌, ◌^◌, Bool, not, ◌||◌, ◌==◌}
 use Rattle.u256.specs.declared.U256.{U256}
 use Rattle.u256.specs.U256.{value_of}
 
@@ -9,9 +9,9 @@ super_pc pc = pc / 4
 abbrev pub sub_pc : ℕ → ℕ
 sub_pc pc = pc % 4
 
--- "page or super pc changed, and not ended"
-abbrev pub code_changed : Bool → ℕ → ℕ → ℕ → ℕ → Bool
-code_changed ended page previous_page super_pc previous_super_pc = not ended && (not (page == previous_page) || not (super_pc == previous_super_pc))
+-- "page or super pc changed"
+abbrev pub code_changed : ℕ → ℕ → ℕ → ℕ → Bool
+code_changed page previous_page super_pc previous_super_pc = not (page == previous_page) || not (super_pc == previous_super_pc)
 
 -- 64 bits of the 256: at sub pc 3 the lowest
 unfoldable pub code_bits : U256 → ℕ → ℕ

@@ -29,15 +29,9 @@ pub fn code_bits(word: U256, sub_pc: u16) -> u64
     }
 }
 
-// Whether a code read is wanted.
-pub fn code_changed(
-    ended: bool,
-    page: u32,
-    previous_page: u32,
-    super_pc: u16,
-    previous_super_pc: u16,
-) -> bool
-    ensures { result ≡ code_changed ended page previous_page super_pc previous_super_pc }
+// Whether the code word is another one than that of the cycle before.
+pub fn code_changed(page: u32, previous_page: u32, super_pc: u16, previous_super_pc: u16) -> bool
+    ensures { result ≡ code_changed page previous_page super_pc previous_super_pc }
 {
-    !ended & ((page != previous_page) | (super_pc != previous_super_pc))
+    (page != previous_page) | (super_pc != previous_super_pc)
 }

@@ -14,11 +14,11 @@ use borrow.Author.Tests.{lt-ltb}
 use Rattle.signed.specs.Signed.{fits_signed}
 use Rattle.signed.proofs.SignedLaws.{signed_of_word, word_of_signed}
 use Rattle.frame.specs.declared.Frame.{Frame}
-use Rattle.frame.specs.Row.{row_width, row_of, row_word, frame_of, good_words, good_row}
+use Rattle.frame.specs.Row.{row_width, row_of, row_word, frame_of, good_row}
 use Rattle.frame.specs.Bounds.{Bounds}
 
 -- what the test of a good row tells
-pub bounds : (w : ℕ) (row : List ℕ) → row_width ≤ length row → good_words w row ≡ true → Bounds w row
+pub bounds : (w : ℕ) (row : List ℕ) → row_width ≤ length row → good_row w row ≡ true → Bounds w row
 bounds w row h e = grind arith
 
 -- ---- there and back
@@ -85,7 +85,7 @@ bit_word (suc (suc n)) h = absurd (none n h)
     none n h = omega arith
 
 -- the row of a good row's frame is the row, where its words have 32 bits
-pub row_of_frame : (w : ℕ) (row : List ℕ) → length row ≡ row_width → ((k : ℕ) → row_word row k < 2 ^ 32) → good_words w row ≡ true → row_of (frame_of row) ≡ row
+pub row_of_frame : (w : ℕ) (row : List ℕ) → length row ≡ row_width → ((k : ℕ) → row_word row k < 2 ^ 32) → good_row w row ≡ true → row_of (frame_of row) ≡ row
 unfolding listed
 row_of_frame w row e small g =
     let b = bounds w row (omega arith) g in
@@ -99,7 +99,7 @@ row_of_frame w row e small g =
 
 -- two good rows of 32-bit words hold the same frame exactly where their words agree
 pub frames_agree : (w : ℕ) (r s : List ℕ) → length r ≡ row_width → length s ≡ row_width → ((k : ℕ) → row_word r k < 2 ^ 32) → ((k : ℕ) → row_word s k < 2 ^ 32)
-    → good_words w r ≡ true → good_words w s ≡ true → (frame_of r ≡ frame_of s) ↔ (r ≡ s)
+    → good_row w r ≡ true → good_row w s ≡ true → (frame_of r ≡ frame_of s) ↔ (r ≡ s)
 frames_agree w r s lr ls br bs gr gs = (
   λ e. sym (row_of_frame w r lr br gr) ∙ ap row_of e ∙ row_of_frame w s ls bs gs,
   λ e. ap frame_of e,

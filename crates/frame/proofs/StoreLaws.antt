@@ -16,7 +16,7 @@ use Rattle.std.proofs.lemmas.List.{drop-take, drop_all}
 use Rattle.frame.specs.declared.Frame.{Frame}
 use Rattle.frame.specs.declared.RowError.{RowError}
 use Rattle.frame.specs.Bounds.{Bounds}
-use Rattle.frame.specs.Row.{row_width, row_of, row_word, frame_of, good_words}
+use Rattle.frame.specs.Row.{row_width, row_of, row_word, frame_of, good_row}
 use Rattle.frame.specs.Store.{whole_rows, row_at, store_with, row_number, save_of, saved_store, save_refusal, read_of, read_refusal, saved_ergs}
 use Rattle.frame.proofs.RowLaws.{Ranges, bounds, good_of_frame, frame_of_row}
 
@@ -47,23 +47,20 @@ module _ (w : ℕ) (store : List ℕ) (i : ℕ) where
 
   -- the words are the first of the part of the store that begins at the row
   module _ (h : i < whole_rows store) (words : List ℕ) (first : words ≡ take row_width (take (length store - i * row_width) (drop (i * row_width) store)))
-      (b : Bool) (e : b ≡ good_words w words) where
+      (b : Bool) (e : b ≡ good_row w words) where
     same : words ≡ row_at store i
     same = first ∙ take-take row_width (length store - i * row_width) (drop (i * row_width) store) (omega (arith, fits (length store) i h))
-
-    sized : leb row_width (length (row_at store i)) ≡ true
-    sized = le-leb row_width (length (row_at store i)) (omega (arith, row_size store i h))
 
     pub good_bounds : b ≡ true → Bounds w words
     good_bounds t = bounds w words (rw same (omega (arith, row_size store i h))) (sym e ∙ t)
 
     pub read_good : b ≡ true → (f : Frame) → f ≡ frame_of words → Read (Ok f)
     unfolding read_of
-    read_good t f q = rw (lt-ltb i (whole_rows store) h, sized, ← same, ← e, t, q) (refl, refl)
+    read_good t f q = rw (lt-ltb i (whole_rows store) h, ← same, ← e, t, q) (refl, refl)
 
     pub read_not_good : b ≡ false → Read (Err RowError.NotGood)
     unfolding read_of
-    read_not_good t = rw (lt-ltb i (whole_rows store) h, sized, ← same, ← e, t) (refl, refl)
+    read_not_good t = rw (lt-ltb i (whole_rows store) h, ← same, ← e, t) (refl, refl)
 
 -- ---- saving
 module _ (store : List ℕ) (i : ℕ) (f : Frame) where

@@ -1,7 +1,7 @@
 -- A frame's row. Document 01: "34 words of 32 bits, the fields of `CallStackEntry` in its order: three addresses of five words (first byte highest), base page,
 -- code page, sp, pc, handler, ergs, three shard ids, static, local, context value (four words, lowest first), heap bound, aux heap bound, pubdata, stipend."
 -- Document 02, CR 12: "Every frame, current or saved, gains the cycle counter that `start_frame` is given at its opening, and a row has 35 words, this one last."
-use Rattle.std.specs.Prelude.{ℕ, ◌+◌, ◌-◌, ◌*◌, ◌/◌, ◌%◌, ◌^◌, Bool, ◌&&◌, List, [], ◌∷◌, ◌++◌, ltb, leb, eqb, length, get_or}
+use Rattle.std.specs.Prelude.{ℕ, ◌+◌, ◌-◌, ◌*◌, ◌/◌, ◌%◌, ◌^◌, Bool, ◌&&◌, List, [], ◌∷◌, ◌++◌, ltb, eqb, get_or}
 use mir.Val.{bool_byte}
 use Rattle.signed.specs.Signed.{word_of, signed_of}
 use Rattle.frame.specs.declared.Frame.{Frame}
@@ -92,8 +92,8 @@ frame_of row = record {
 -- "A row is good if sp, pc and handler are below 65,536, shard ids below 256, static and local 0 or 1." sp, pc and handler have w bits: 16 in the production
 -- encoding. The tests are of words, since a frame's static and local are yes or no and no longer tell 2 from 0.
 -- The other words, the cycle of opening among them, may have any value.
-abbrev pub good_words : ℕ → List ℕ → Bool
-good_words w row =
+abbrev pub good_row : ℕ → List ℕ → Bool
+good_row w row =
     ltb (row_word row 17) (2 ^ w)
     && ltb (row_word row 18) (2 ^ w)
     && ltb (row_word row 19) (2 ^ w)
@@ -102,7 +102,3 @@ good_words w row =
     && ltb (row_word row 23) 256
     && ltb (row_word row 24) 2
     && ltb (row_word row 25) 2
-
--- fewer words than a row's are no good row
-abbrev pub good_row : ℕ → List ℕ → Bool
-good_row w row = leb row_width (length row) && good_words w row

@@ -1,5 +1,5 @@
 -- The frame store: rows of words, one after the other, and the answers of saving and reading row i. Document 01: "Depth is the number of saved rows, the
--- oldest first."
+-- oldest first." Who writes it, and when execution has ended: stages, `execute_store` and `is_ended`.
 use Rattle.std.specs.Prelude.{ℕ, zero, suc, ◌+◌, ◌*◌, ◌/◌, cond, not, List, [], ◌∷◌, Result, Ok, Err, ◌++◌, ltb, length, take, drop}
 use Rattle.frame.specs.declared.Frame.{Frame}
 use Rattle.frame.specs.declared.RowError.{RowError}

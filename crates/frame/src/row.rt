@@ -2,7 +2,7 @@
 ghost use Rattle.std.specs.Prelude.{◌≡◌, ◌++◌, ◌/◌, ◌%◌, ◌^◌, if◌then◌else◌, leb, length, drop};
 ghost use Rattle.signed.specs.Signed.{word_of};
 ghost use Rattle.frame.specs.Bounds.{Bounds};
-ghost use Rattle.frame.specs.Row.{row_width, row_of, frame_of, good_words, pubdata_of, u128_of};
+ghost use Rattle.frame.specs.Row.{row_width, row_of, frame_of, good_row, pubdata_of, u128_of};
 
 use crate::{Address, Frame, PubdataCost, ROW_WIDTH, U128};
 
@@ -83,7 +83,7 @@ pub(crate) fn write(part: &mut [u32], f: Frame)
 }
 
 pub(crate) fn is_good(row: &[u32; ROW_WIDTH]) -> bool
-    ensures { result ≡ good_words 16 row.now }
+    ensures { result ≡ good_row 16 row.now }
 {
     (row[17] < 0x1_0000)
         & (row[18] < 0x1_0000)

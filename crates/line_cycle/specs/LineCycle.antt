@@ -20,13 +20,13 @@ use Rattle.line_cycle.specs.declared.LineAnswer.{LineAnswer}
 use Rattle.table.specs.declared.Row.{Row}
 
 -- the machine state with what is lent to it
-pub record Position : Type 0 where
+pub record Holding : Type 0 where
   pub state : State
   pub store : List ℕ
   pub tally : List ℕ
 
-abbrev pub start_position : ℕ → Position
-start_position ergs = record { state = start_state ergs 0; store = empty_store 16; tally = replicate 17 0 }
+abbrev pub start_holding : ℕ → Holding
+start_holding ergs = record { state = start_state ergs 0; store = empty_store 16; tally = replicate 17 0 }
 
 -- the instruction of each op: operation (1 add, 3 near call, 4 return), return kind (0 ok, 1 revert, 2 panic), a source in a register, src0 (a call's is register 1)
 -- and price
@@ -66,7 +66,7 @@ requested_state s want = record {
   pending_exception = s.pending_exception;
 }
 
-abbrev pub cycle_in : ℕ → Line → Position → Cycled
+abbrev pub cycle_in : ℕ → Line → Holding → Cycled
 cycle_in limit line b = cycle_of (input_of limit line.op line.price) (requested_state b.state line.want) b.store
 
 -- the refusal of the cycle, or, where it is finished, the tally's answer to its entry
@@ -75,31 +75,31 @@ entry_of limit before tally c (Ok answer) = enter_of tally limit before c.state.
 entry_of limit before tally c (Err refused) = Err refused.refusal
 
 -- what a line's cycle gives
-unfoldable pub line_answer : ℕ → Line → Position → LineAnswer
+unfoldable pub line_answer : ℕ → Line → Holding → LineAnswer
 line_answer limit line b = record {
   state = (cycle_in limit line b).state;
   charge = cycle_charge (cycle_in limit line b).answer;
   answer = entry_of limit b.state.depth b.tally (cycle_in limit line b) (cycle_in limit line b).answer;
 }
 
-unfoldable pub store_after : ℕ → Line → Position → List ℕ
+unfoldable pub store_after : ℕ → Line → Holding → List ℕ
 store_after limit line b = cycle_store (input_of limit line.op line.price) (requested_state b.state line.want) b.store
 
-unfoldable pub entries_after : ℕ → Line → Position → List ℕ
+unfoldable pub entries_after : ℕ → Line → Holding → List ℕ
 entries_after limit line b =
     cond (is_ok (cycle_in limit line b).answer)
     (tally_after b.tally limit b.state.depth (cycle_in limit line b).state.depth (cycle_charge (cycle_in limit line b).answer))
     b.tally
 
-abbrev pub position_after : ℕ → Line → Position → Position
-position_after limit line b = record {
+abbrev pub holding_after : ℕ → Line → Holding → Holding
+holding_after limit line b = record {
   state = (line_answer limit line b).state;
   store = store_after limit line b;
   tally = entries_after limit line b;
 }
 
 -- "cycle number, op read, charge, depth after, ergs of the current frame, ergs of all frames, its tally"
-unfoldable pub printed_row : ℕ → Op → ℕ → Position → Row
+unfoldable pub printed_row : ℕ → Op → ℕ → Holding → Row
 printed_row cycle op charge b = record {
   total = b.state.current.ergs_remaining + saved_ergs b.state.depth b.store;
   own = get_or b.tally b.state.depth 0;

@@ -64,7 +64,7 @@ pub fn requested(mut state: State, want: u32) -> State
 }
 
 // The cycle of a line, and its entry in the tally. A stage's refusal leaves the state that the stage was given, in mid-cycle; the tally's leaves the finished cycle.
-// State, store and tally are no struct, here and in `row_of`: a caller that has the three apart would make one at each call, and take it apart again.
+// State, store and tally are no struct, here and in `printed_row`: a caller that has the three apart would make one at each call, and take it apart again.
 #[tactic(auto, unfolding(crate::specs::LineCycle::line_answer, crate::specs::LineCycle::store_after, crate::specs::LineCycle::entries_after))]
 pub fn run_line(
     state: State,
@@ -110,7 +110,14 @@ fn total_of(held: u32, store: &[u32], depth: u32) -> u64
 }
 
 #[tactic(auto, unfolding(crate::specs::LineCycle::printed_row))]
-pub fn row_of(cycle: u64, op: Op, charge: u32, state: State, store: &[u32], tally: &[u64]) -> Row
+pub fn printed_row(
+    cycle: u64,
+    op: Op,
+    charge: u32,
+    state: State,
+    store: &[u32],
+    tally: &[u64],
+) -> Row
     ensures { result ≡ printed_row cycle op charge (record { state = state; store = store.now; tally = tally.now }) }
 {
     let held = state.current.ergs_remaining;

@@ -11,7 +11,7 @@ use Rattle.table.specs.Row.{row_text, bad_line, refused_line}
 use Rattle.std.specs.Prelude.{Ok, Err}
 use Rattle.refusal.specs.declared.Refusal.{Refusal}
 use Rattle.refusal.specs.Refusal.{paper_number}
-use Rattle.line_cycle.specs.LineCycle.{Position, line_answer, position_after, printed_row}
+use Rattle.line_cycle.specs.LineCycle.{Holding, line_answer, holding_after, printed_row}
 use Rattle.listing.specs.Listing.{lines_text}
 
 -- where the line that begins at a position ends: at its line end, or with the input
@@ -38,15 +38,15 @@ others input at =
     later (drop at input) ∙ ap lines_of (drop-drop (line_end (drop at input) + 1) at input) ∙ ap (λ (n : ℕ). lines_of (drop n input)) k
 
 -- A listing of lines from one writer on has come to another, to cycle n and the lines that are left: what they give from there on ends it.
-pub record Going (old : Writer) (text : List ℕ) (limit n : ℕ) (b : Position) (lines : List (List ℕ)) (now : Writer) : Type 0 where
+pub record Going (old : Writer) (text : List ℕ) (limit n : ℕ) (b : Holding) (lines : List (List ℕ)) (now : Writer) : Type 0 where
   pub inside : now.position ≤ length now.buffer.now
   pub ends : (new : Writer) → Wrote now (lines_text limit n b lines) new → Wrote old text new
 
 -- the row of the cycle of a line
-abbrev pub cycle_row : ℕ → ℕ → Position → Line → List ℕ
-cycle_row limit n b line = row_text (printed_row n line.op (line_answer limit line b).charge (position_after limit line b))
+abbrev pub cycle_row : ℕ → ℕ → Holding → Line → List ℕ
+cycle_row limit n b line = row_text (printed_row n line.op (line_answer limit line b).charge (holding_after limit line b))
 
-module _ {old : Writer} {text : List ℕ} {limit n : ℕ} {b : Position} {lines : List (List ℕ)} {now : Writer} (p : Going old text limit n b lines now) where
+module _ {old : Writer} {text : List ℕ} {limit n : ℕ} {b : Holding} {lines : List (List ℕ)} {now : Writer} (p : Going old text limit n b lines now) where
   pub going_done : lines ≡ [] → Wrote old text now
   going_done e = rw e at p.ends now record { bytes = refl; position = omega (arith, p.inside); same = refl }
 
@@ -59,10 +59,10 @@ module _ {old : Writer} {text : List ℕ} {limit n : ℕ} {b : Position} {lines 
       going_refused refusal h w = p.ends new (rw (next, is, h) w)
 
       pub going_on : (line_answer limit read b).answer ≡ Ok tt → Wrote now (cycle_row limit n b read) new
-          → Going old text limit (n + 1) (position_after limit read b) others new
+          → Going old text limit (n + 1) (holding_after limit read b) others new
       going_on h w = record {
         inside = omega (arith, w.position, wrote_length now (cycle_row limit n b read) w);
         ends = λ end later.
             p.ends end (rw (next, is, h)
-            (join now (cycle_row limit n b read) (lines_text limit (n + 1) (position_after limit read b) others) w later));
+            (join now (cycle_row limit n b read) (lines_text limit (n + 1) (holding_after limit read b) others) w later));
       }

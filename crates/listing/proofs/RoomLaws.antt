@@ -22,7 +22,7 @@ use Rattle.table.proofs.RowLaws.{row_length, labelled_length}
 use Rattle.std.specs.Prelude.{Result, Ok, Err}
 use Rattle.refusal.specs.declared.Refusal.{Refusal}
 use Rattle.refusal.specs.Refusal.{paper_number}
-use Rattle.line_cycle.specs.LineCycle.{Position, start_position, line_answer, position_after, printed_row}
+use Rattle.line_cycle.specs.LineCycle.{Holding, start_holding, line_answer, holding_after, printed_row}
 use Rattle.listing.proofs.ListingLaws.{cycle_row}
 use Rattle.listing.specs.Listing.{going_on, line_text, lines_text, named, from_columns_line, started, from_values_line, from_names_line, listing_of}
 
@@ -48,26 +48,26 @@ size_drop [] = omega arith
 size_drop (l ∷ ls) = omega arith
 
 -- what a line prints is paid for by its bytes
-line_size : (limit n : ℕ) (b : Position) (read : Option Line) (bytes : ℕ) → (later : Position → List ℕ) (more : ℕ)
-    → ((line : Line) → read ≡ Some line → 6 ≤ bytes) → ((next : Position) → length (later next) ≤ more) → 30 ≤ more
+line_size : (limit n : ℕ) (b : Holding) (read : Option Line) (bytes : ℕ) → (later : Holding → List ℕ) (more : ℕ)
+    → ((line : Line) → read ≡ Some line → 6 ≤ bytes) → ((next : Holding) → length (later next) ≤ more) → 30 ≤ more
     → length (line_text limit n b read later) ≤ 20 * (bytes + 1) + more
 line_size limit n b None bytes later more k h m = omega (arith, labelled_length (bytes_of "bad line ") (n + 3))
 line_size limit n b (Some line) bytes later more k h m = go (line_answer limit line b).answer
   where
     go : (answer : Result (Unit {0}) Refusal)
-        → length (going_on answer (cycle_row limit n b line ++ later (position_after limit line b)))
+        → length (going_on answer (cycle_row limit n b line ++ later (holding_after limit line b)))
         ≤ 20 * (bytes + 1) + more
     go (Ok done) =
         omega (
           arith,
-          length-append (cycle_row limit n b line) (later (position_after limit line b)),
-          row_length (printed_row n line.op (line_answer limit line b).charge (position_after limit line b)),
-          h (position_after limit line b),
+          length-append (cycle_row limit n b line) (later (holding_after limit line b)),
+          row_length (printed_row n line.op (line_answer limit line b).charge (holding_after limit line b)),
+          h (holding_after limit line b),
           k line refl,
         )
     go (Err refusal) = omega (arith, labelled_length (bytes_of "refused ") (paper_number refusal))
 
-lines_size : (limit n : ℕ) (b : Position) (lines : List (List ℕ)) → length (lines_text limit n b lines) ≤ 20 * size lines + 30
+lines_size : (limit n : ℕ) (b : Holding) (lines : List (List ℕ)) → length (lines_text limit n b lines) ≤ 20 * size lines + 30
 unfolding size
 lines_size limit n b [] = omega arith
 lines_size limit n b (l ∷ ls) =
@@ -84,8 +84,8 @@ named_size n false later most h m = omega (arith, labelled_length (bytes_of "bad
 third_size : (ergs limit : ℕ) (lines : List (List ℕ)) → length (from_columns_line ergs limit lines) ≤ 20 * size lines + 30
 unfolding from_columns_line
 third_size ergs limit lines =
-    named_size 3 (same_bytes (get_or lines 0 []) (bytes_of "op price want")) (lines_text limit 1 (start_position ergs) (drop 1 lines)) (20 * size lines + 30)
-    (omega (arith, lines_size limit 1 (start_position ergs) (drop 1 lines), size_drop lines)) (omega arith)
+    named_size 3 (same_bytes (get_or lines 0 []) (bytes_of "op price want")) (lines_text limit 1 (start_holding ergs) (drop 1 lines)) (20 * size lines + 30)
+    (omega (arith, lines_size limit 1 (start_holding ergs) (drop 1 lines), size_drop lines)) (omega arith)
 
 started_size : (start : Option Start) (lines : List (List ℕ)) → length (started start lines) ≤ 20 * size lines + 30
 started_size None lines = omega (arith, labelled_length (bytes_of "bad line ") 2)

@@ -9,22 +9,22 @@ use Rattle.table.specs.Line.{line_of, start_of}
 use Rattle.table.specs.Row.{row_text, bad_line, refused_line, names_line}
 use Rattle.refusal.specs.declared.Refusal.{Refusal}
 use Rattle.refusal.specs.Refusal.{paper_number}
-use Rattle.line_cycle.specs.LineCycle.{Position, start_position, line_answer, position_after, printed_row}
+use Rattle.line_cycle.specs.LineCycle.{Holding, start_holding, line_answer, holding_after, printed_row}
 
 -- what a line's cycle prints, which goes on so where nothing is refused
 abbrev pub going_on : Result (Unit {0}) Refusal → List ℕ → List ℕ
 going_on (Ok done) text = text
 going_on (Err refusal) text = refused_line (paper_number refusal)
 
--- what a line prints, with what the lines after it print from the run that it leaves. Cycle n stands on line n + 3.
-abbrev pub line_text : ℕ → ℕ → Position → Option Line → (Position → List ℕ) → List ℕ
+-- what a line prints, with what the lines after it print from what it leaves. Cycle n stands on line n + 3.
+abbrev pub line_text : ℕ → ℕ → Holding → Option Line → (Holding → List ℕ) → List ℕ
 line_text limit n b None later = bad_line (n + 3)
 line_text limit n b (Some line) later =
     going_on (line_answer limit line b).answer
-    (row_text (printed_row n line.op (line_answer limit line b).charge (position_after limit line b)) ++ later (position_after limit line b))
+    (row_text (printed_row n line.op (line_answer limit line b).charge (holding_after limit line b)) ++ later (holding_after limit line b))
 
 -- the lines from the fourth on, the first of which is cycle n
-abbrev pub lines_text : ℕ → ℕ → Position → List (List ℕ) → List ℕ
+abbrev pub lines_text : ℕ → ℕ → Holding → List (List ℕ) → List ℕ
 lines_text limit n b [] = []
 lines_text limit n b (line ∷ lines) = line_text limit n b (line_of line) (λ next. lines_text limit (n + 1) next lines)
 
@@ -34,7 +34,7 @@ abbrev pub named : ℕ → Bool → List ℕ → List ℕ
 named n same later = cond same later (bad_line n)
 
 unfoldable pub from_columns_line : ℕ → ℕ → List (List ℕ) → List ℕ
-from_columns_line ergs limit lines = named 3 (same_bytes (get_or lines 0 []) (bytes_of "op price want")) (lines_text limit 1 (start_position ergs) (drop 1 lines))
+from_columns_line ergs limit lines = named 3 (same_bytes (get_or lines 0 []) (bytes_of "op price want")) (lines_text limit 1 (start_holding ergs) (drop 1 lines))
 
 abbrev pub started : Option Start → List (List ℕ) → List ℕ
 started None lines = bad_line 2

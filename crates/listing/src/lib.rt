@@ -5,7 +5,7 @@ ghost use Rattle.std.specs.Prelude.{◌≡◌, ◌≤◌, [], length, take, drop
 ghost use Rattle.text.specs.Bytes.{Wrote};
 ghost use Rattle.text.specs.Lines.{lines_left};
 ghost use Rattle.table.specs.Row.{bad_line};
-ghost use Rattle.line_cycle.specs.LineCycle.{start_position};
+ghost use Rattle.line_cycle.specs.LineCycle.{start_holding};
 ghost use Rattle.listing.specs.Listing.{lines_text, from_names_line, listing_of};
 
 use table::Start;
@@ -28,7 +28,7 @@ const TALLY: usize = DEEPEST + 1;
 // public: callers may give any.
 fn put_cycles(start: Start, lines: Lines<'_>, writer: &mut Writer<'_>)
     requires { writer.old.position ≤ length writer.old.buffer.now }
-    ensures { Wrote writer.old (lines_text start.limit 1 (start_position start.ergs) (lines_left lines.entry)) writer.new }
+    ensures { Wrote writer.old (lines_text start.limit 1 (start_holding start.ergs) (lines_left lines.entry)) writer.new }
 {
     let mut store = [0u32; STORE];
     let mut tally = [0u64; TALLY];
@@ -42,7 +42,7 @@ fn put_cycles(start: Start, lines: Lines<'_>, writer: &mut Writer<'_>)
             return table::put_refused(writer, refusal.number());
         }
         state = ran.state;
-        let row = line_cycle::row_of(cycle, line.op, ran.charge, state, &store, &tally);
+        let row = line_cycle::printed_row(cycle, line.op, ran.charge, state, &store, &tally);
         table::put_row(writer, row);
     }
 }
@@ -64,7 +64,7 @@ struct BadLine {
 #[tactic(auto, unfolding(crate::specs::Listing::from_names_line, crate::specs::Listing::from_values_line, crate::specs::Listing::from_columns_line))]
 fn read_start(lines: &mut Lines<'_>) -> Result<Start, BadLine>
     ensures { MatchResult result
-        (λ start. from_names_line (lines_left lines.old) ≡ lines_text start.limit 1 (start_position start.ergs) (lines_left lines.new))
+        (λ start. from_names_line (lines_left lines.old) ≡ lines_text start.limit 1 (start_holding start.ergs) (lines_left lines.new))
         (λ bad. from_names_line (lines_left lines.old) ≡ bad_line bad.number) }
 {
     if next_line(lines) != b"ergs limit".as_slice() {

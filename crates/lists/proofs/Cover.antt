@@ -5,60 +5,60 @@ use mathlib.Core.List.{List, [], ◌∷◌, ◌++◌}
 use native.Mathlib.Omega.{arith}
 use lib.ListN.{length}
 use Rattle.lists.specs.Machine.{Machine, Reached, ready, fetched, decoded, addressed}
-use Rattle.lists.specs.Lists.{Call, fetch, decode, operands, execute, Called, called, Cycle, events_of}
+use Rattle.lists.specs.Lists.{Call, fetch, decode, operands, execute, CallMade, made, Cycle, calls_made}
 use Rattle.lists.specs.Laws.{takes_at, brings_to, Laws}
 use Rattle.lists.specs.Claims.{calls_left, Covered, CyclesCover}
 use Rattle.lists.proofs.Cycles.{Follow, all_follow}
 
 module _ (M : Machine) where
-  open M use {State, FetchCall, DecodeCall, OperandsCall, ExecuteCall}
+  open M use {State, FetchArgs, DecodeArgs, OperandsArgs, ExecuteArgs}
 
   -- calls that take the stages in turn, from this one on
-  data From : Reached → List (Called M) → Type 0 where
+  data From : Reached → List (CallMade M) → Type 0 where
     end : {a : Reached} → From a []
-    by_fetch : (x : FetchCall) (s : State) (m : List ℕ) {es : List (Called M)} → From fetched es → From ready (called (fetch x) s m ∷ es)
-    by_decode : (x : DecodeCall) (s : State) (m : List ℕ) {es : List (Called M)} → From decoded es → From fetched (called (decode x) s m ∷ es)
-    by_operands : (x : OperandsCall) (s : State) (m : List ℕ) {es : List (Called M)} → From addressed es → From decoded (called (operands x) s m ∷ es)
-    by_execute : (x : ExecuteCall) (s : State) (m : List ℕ) {es : List (Called M)} → From ready es → From addressed (called (execute x) s m ∷ es)
+    by_fetch : (x : FetchArgs) (s : State) (m : List ℕ) {es : List (CallMade M)} → From fetched es → From ready (made (fetch x) s m ∷ es)
+    by_decode : (x : DecodeArgs) (s : State) (m : List ℕ) {es : List (CallMade M)} → From decoded es → From fetched (made (decode x) s m ∷ es)
+    by_operands : (x : OperandsArgs) (s : State) (m : List ℕ) {es : List (CallMade M)} → From addressed es → From decoded (made (operands x) s m ∷ es)
+    by_execute : (x : ExecuteArgs) (s : State) (m : List ℕ) {es : List (CallMade M)} → From ready es → From addressed (made (execute x) s m ∷ es)
 
-  with_first : (c : Call M) (s : State) (m : List ℕ) {es : List (Called M)} → From (brings_to M c) es → From (takes_at M c) (called c s m ∷ es)
+  with_first : (c : Call M) (s : State) (m : List ℕ) {es : List (CallMade M)} → From (brings_to M c) es → From (takes_at M c) (made c s m ∷ es)
   with_first (fetch x) s m r = by_fetch x s m r
   with_first (decode x) s m r = by_decode x s m r
   with_first (operands x) s m r = by_operands x s m r
   with_first (execute x) s m r = by_execute x s m r
 
   -- ---- such calls are covered
-  unended : {a : Reached} (es : List (Called M)) → length es < 4 → Covered M a es
-  unfolding events_of
+  unended : {a : Reached} (es : List (CallMade M)) → length es < 4 → Covered M a es
+  unfolding calls_made
   unended es h = record { ending = []; cycles = []; begun = es; parts = refl; few_ending = omega arith; few_begun = h }
 
-  with_call : {a b : Reached} (e : Called M) {es : List (Called M)} → calls_left M a < calls_left M b → Covered M a es → Covered M b (e ∷ es)
+  with_call : {a b : Reached} (e : CallMade M) {es : List (CallMade M)} → calls_left M a < calls_left M b → Covered M a es → Covered M b (e ∷ es)
   with_call e h c = record {
     ending = e ∷ c.ending;
     cycles = c.cycles;
     begun = c.begun;
-    parts = ap (λ (l : List (Called M)). e ∷ l) c.parts;
+    parts = ap (λ (l : List (CallMade M)). e ∷ l) c.parts;
     few_ending = omega arith;
     few_begun = c.few_begun;
   }
 
-  with_cycle : (c : Cycle M) {es : List (Called M)} → Covered M ready es → Covered M ready (events_of M (c ∷ []) ++ es)
-  unfolding events_of
+  with_cycle : (c : Cycle M) {es : List (CallMade M)} → Covered M ready es → Covered M ready (calls_made M (c ∷ []) ++ es)
+  unfolding calls_made
   with_cycle c {es} d = record {
     ending = [];
     cycles = c ∷ d.cycles;
     begun = d.begun;
-    parts = ap (λ (l : List (Called M)). events_of M (c ∷ []) ++ l) (no_ending d.ending d.parts d.few_ending);
+    parts = ap (λ (l : List (CallMade M)). calls_made M (c ∷ []) ++ l) (no_ending d.ending d.parts d.few_ending);
     few_ending = omega arith;
     few_begun = d.few_begun;
   }
     where
-      no_ending : (ending : List (Called M)) {l : List (Called M)} → es ≡ ending ++ l → length ending ≤ 0 → es ≡ l
+      no_ending : (ending : List (CallMade M)) {l : List (CallMade M)} → es ≡ ending ++ l → length ending ≤ 0 → es ≡ l
       no_ending [] e h = e
       no_ending (x ∷ ending) e h = absurd (omega arith)
 
-  covered : {a : Reached} {es : List (Called M)} → From a es → Covered M a es
-  unfolding events_of
+  covered : {a : Reached} {es : List (CallMade M)} → From a es → Covered M a es
+  unfolding calls_made
   covered end = unended _ (omega arith)
   covered (by_fetch w s m end) = unended _ (omega arith)
   covered (by_fetch w s m (by_decode x t n end)) = unended _ (omega arith)
@@ -80,9 +80,9 @@ module _ (M : Machine) where
 module _ (M : Machine) (L : Laws M) where
   open M use {State, stage}
 
-  in_turn : (es : List (Called M)) (s : State) (m : List ℕ) → Follow M s m es → From M (stage s) es
+  in_turn : (es : List (CallMade M)) (s : State) (m : List ℕ) → Follow M s m es → From M (stage s) es
   in_turn [] s m f = end
-  in_turn (called c t n ∷ es) s m f =
+  in_turn (made c t n ∷ es) s m f =
       let a = L.advances c t n f.2 in
       rw (← f.0, a.stage_before) (with_first M c t n (rw a.stage_after at (in_turn es _ _ f.3)))
 

@@ -7,7 +7,7 @@ use mathlib.Core.List.{List, [], ◌∷◌, ◌++◌}
 use mathlib.Core.Option.{none}
 use native.Mathlib.Omega.{arith}
 use Rattle.lists.specs.Machine.{Machine, Outcome, FrameOperation, near_call, ret, neither, finished}
-use Rattle.lists.specs.Lists.{Call, Called, called, outcome_of, trace, finished_of, Cycle, events_of, InTurn}
+use Rattle.lists.specs.Lists.{Call, CallMade, made, outcome_of, trace, finished_of, Cycle, calls_made, InTurn}
 use Rattle.lists.specs.Lists.{before, store_before, result, charge, operation, opens, closes, opened, closed, sum}
 use Rattle.lists.specs.Laws.{Spends, Performs, Laws}
 use Rattle.lists.specs.Claims.{FramesCounted}
@@ -17,14 +17,14 @@ module _ (M : Machine) where
   open M use {State}
 
   -- each of these calls finished and was given what the one before gave; the first was given this state and this store
-  abbrev pub Follow : State → List ℕ → List (Called M) → Type 0
+  abbrev pub Follow : State → List ℕ → List (CallMade M) → Type 0
   Follow s m [] = Unit {0}
-  Follow s m (called c t n ∷ es) =
+  Follow s m (made c t n ∷ es) =
       (t ≡ s) × (n ≡ m) × (finished (outcome_of M c t n) ≡ true) × Follow (outcome_of M c t n).state (outcome_of M c t n).store es
 
-  later_follow : (earlier : List (Called M)) (s : State) (m : List ℕ) (es : List (Called M)) → Follow s m (earlier ++ es) → (t : State) × (n : List ℕ) × Follow t n es
+  later_follow : (earlier : List (CallMade M)) (s : State) (m : List ℕ) (es : List (CallMade M)) → Follow s m (earlier ++ es) → (t : State) × (n : List ℕ) × Follow t n es
   later_follow [] s m es f = (s, m, f)
-  later_follow (called c t n ∷ l) s m es f = later_follow l (outcome_of M c t n).state (outcome_of M c t n).store es f.3
+  later_follow (made c t n ∷ l) s m es f = later_follow l (outcome_of M c t n).state (outcome_of M c t n).store es f.3
 
   -- what the first three calls of a cycle give to its execute
   abbrev pub reached : Cycle M → Outcome State
@@ -43,8 +43,8 @@ module _ (M : Machine) (L : Laws M) where
   all_follow [] s m = tt
   all_follow (c ∷ cs) s m = go _ (finished (outcome_of M c s m)) refl (all_follow cs (outcome_of M c s m).state (outcome_of M c s m).store)
     where
-      go : (es : List (Called M)) (b : Bool) → finished (outcome_of M c s m) ≡ b
-          → Follow M (outcome_of M c s m).state (outcome_of M c s m).store es → Follow M s m (cond b (called c s m ∷ es) es)
+      go : (es : List (CallMade M)) (b : Bool) → finished (outcome_of M c s m) ≡ b
+          → Follow M (outcome_of M c s m).state (outcome_of M c s m).store es → Follow M s m (cond b (made c s m ∷ es) es)
       go es true e f = (refl, refl, e, f)
       go es false e f =
           let u = L.refused c s m e in
@@ -52,12 +52,12 @@ module _ (M : Machine) (L : Laws M) where
 
   -- the calls of cycles of a list, from the state and the store before the first of them
   pub follow : {calls : List (Call M)} {s : State} {store : List ℕ} {cycles : List (Cycle M)} (t : InTurn M calls s store cycles)
-      → (a : State) × (m : List ℕ) × Follow M a m (events_of M cycles ++ t.later)
+      → (a : State) × (m : List ℕ) × Follow M a m (calls_made M cycles ++ t.later)
   follow {calls} {s} {store} t = later_follow M t.earlier s store _ (rw t.found at (all_follow calls s store))
 
   -- ---- what a cycle does
-  pub does : (s : State) (m : List ℕ) (c : Cycle M) (cs : List (Cycle M)) (later : List (Called M)) → Follow M s m (events_of M (c ∷ cs) ++ later) → Does M c
-  unfolding events_of charge operation
+  pub does : (s : State) (m : List ℕ) (c : Cycle M) (cs : List (Cycle M)) (later : List (CallMade M)) → Follow M s m (calls_made M (c ∷ cs) ++ later) → Does M c
+  unfolding calls_made charge operation
   does s m c cs later f =
       let x = L.fetch_spends c.fetch.input c.fetch.state c.fetch.store f.2 in
       let y = L.decode_spends c.decode.input c.decode.state c.decode.store f.3.2 in

@@ -10,7 +10,7 @@ use native.Mathlib.Decide.{dec_lt}
 use native.Mathlib.Nat.{add-zero, add_assoc}
 use lib.ListN.{length, take}
 use Rattle.lists.specs.Machine.{Machine, Outcome, FrameOperation, near_call, ret, neither, machine_row, first_rows}
-use Rattle.lists.specs.Lists.{Called, Cycle, events_of, before, store_before, result, charge, charges, operation, opens, closes, opened, closed, sum, share}
+use Rattle.lists.specs.Lists.{CallMade, Cycle, calls_made, before, store_before, result, charge, charges, operation, opens, closes, opened, closed, sum, share}
 use Rattle.lists.specs.Laws.{Spends, OpensFrame, ClosesFrame, Performs, Laws}
 use Rattle.lists.specs.Claims.{CallersResume}
 use Rattle.lists.proofs.Rows.{fewer_same, row_same, saved_ergs, saved_same}
@@ -18,7 +18,7 @@ use Rattle.lists.proofs.Cycles.{Follow, follow, Does, does}
 
 -- ---- the frames above the caller of a near call
 module _ (M : Machine) (call : Cycle M) where
-  open M use {State, ExecuteCall, Lasting, is_local, ergs, lasting, depth, passes, row_ergs, row_lasting}
+  open M use {State, ExecuteArgs, Lasting, is_local, ergs, lasting, depth, passes, row_ergs, row_lasting}
 
   -- the caller's depth, which is also the row that it is saved as
   abbrev d : ℕ
@@ -57,7 +57,7 @@ module _ (M : Machine) (call : Cycle M) where
           below = a.below;
         })
 
-    opened_above : {k : ℕ} (x : ExecuteCall) → OpensFrame M x s m o → share M call ≤ row_ergs (machine_row M o.store d)
+    opened_above : {k : ℕ} (x : ExecuteArgs) → OpensFrame M x s m o → share M call ≤ row_ergs (machine_row M o.store d)
         → row_lasting (machine_row M o.store d) ≡ lasting (before M call) → Above k s m paid → Above (suc k) o.state o.store paid
     unfolding saved_ergs
     opened_above {k} x z l e a =
@@ -142,14 +142,14 @@ module _ (M : Machine) (L : Laws M) (call : Cycle M) where
   open M use {State, depth}
 
   -- one cycle, whatever its operation
-  over_cycle : (c : Cycle M) (cs : List (Cycle M)) (later : List (Called M)) (s : State) (m : List ℕ) (k paid : ℕ)
-      → Follow M s m (events_of M (c ∷ cs) ++ later)
+  over_cycle : (c : Cycle M) (cs : List (Cycle M)) (later : List (CallMade M)) (s : State) (m : List ℕ) (k paid : ℕ)
+      → Follow M s m (calls_made M (c ∷ cs) ++ later)
       → 0 < k
       → Above M call k s m paid
       → (k' : ℕ)
       × (k' + closes (operation M c) ≡ k + opens (operation M c))
       × Above M call k' (result M c).state (result M c).store (paid + charge M c)
-  unfolding events_of
+  unfolding calls_made
   over_cycle c cs later s m zero paid f h a = absurd (omega arith)
   over_cycle c cs later s m (suc j) paid f h a = go (operation M c) x.performs
     where
@@ -171,12 +171,12 @@ module _ (M : Machine) (L : Laws M) (call : Cycle M) where
   abbrev LastCloses : ℕ → List (Cycle M) → Type 0
   LastCloses k cs = (k + opened M cs ≡ closed M cs) × ((i : ℕ) → i < length cs → k + opened M (take i cs) ≢ closed M (take i cs))
 
-  over_cycles : (between : List (Cycle M)) (close : Cycle M) (later : List (Called M)) (s : State) (m : List ℕ) (k paid : ℕ)
-      → Follow M s m (events_of M (between ++ (close ∷ [])) ++ later)
+  over_cycles : (between : List (Cycle M)) (close : Cycle M) (later : List (CallMade M)) (s : State) (m : List ℕ) (k paid : ℕ)
+      → Follow M s m (calls_made M (between ++ (close ∷ [])) ++ later)
       → LastCloses k (between ++ (close ∷ []))
       → Above M call k s m paid
       → Above M call 0 (result M close).state (result M close).store (paid + charges M (between ++ (close ∷ [])))
-  unfolding events_of opened closed charges sum
+  unfolding calls_made opened closed charges sum
   over_cycles [] close later s m k paid f l a =
       let x = over_cycle close [] later s m k paid f (omega (arith, l.1 0 (omega arith))) a in
       let none : x.0 ≡ 0 = omega (arith, x.1, l.0) in
@@ -199,7 +199,7 @@ module _ (M : Machine) (L : Laws M) (call : Cycle M) where
 
 module _ (M : Machine) (L : Laws M) where
   pub callers_resume : CallersResume M
-  unfolding events_of opened closed charges sum saved_ergs share
+  unfolding calls_made opened closed charges sum saved_ergs share
   callers_resume calls s store call between close t e l =
       let f = follow M L t in
       let x = does M L f.0 f.1 call (between ++ (close ∷ [])) t.later f.2 in

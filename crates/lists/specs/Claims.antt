@@ -2,7 +2,7 @@
 -- for each call in it."
 use Rattle.std.specs.Prelude.{ℕ, ◌+◌, ◌≤◌, ◌<◌, ◌≡◌, ◌≢◌, List, [], ◌∷◌, ◌++◌, length, take}
 use Rattle.lists.specs.Machine.{Machine, Reached, ready, fetched, decoded, addressed, near_call, first_rows}
-use Rattle.lists.specs.Lists.{Call, Called, trace, finished_of, Cycle, events_of, InTurn}
+use Rattle.lists.specs.Lists.{Call, CallMade, trace, finished_of, Cycle, calls_made, InTurn}
 use Rattle.lists.specs.Lists.{before, store_before, result, charge, charges, operation, opened, closed, share}
 
 module _ (M : Machine) where
@@ -51,11 +51,11 @@ module _ (M : Machine) where
   calls_left = elim [ ready ↦ 0 | fetched ↦ 3 | decoded ↦ 2 | addressed ↦ 1 ]
 
   -- calls from a stage on: those that end a cycle begun before, then whole cycles, then fewer calls than a cycle has
-  pub record Covered (reached : Reached) (events : List (Called M)) : Type 0 where
-    pub ending : List (Called M)
+  pub record Covered (reached : Reached) (made_calls : List (CallMade M)) : Type 0 where
+    pub ending : List (CallMade M)
     pub cycles : List (Cycle M)
-    pub begun : List (Called M)
-    pub parts : events ≡ ending ++ (events_of M cycles ++ begun)
+    pub begun : List (CallMade M)
+    pub parts : made_calls ≡ ending ++ (calls_made M cycles ++ begun)
     pub few_ending : length ending ≤ calls_left reached
     pub few_begun : length begun < 4
 

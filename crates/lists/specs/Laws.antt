@@ -5,7 +5,7 @@ use Rattle.lists.specs.Machine.{finished, charge_of, machine_row, first_rows}
 use Rattle.lists.specs.Lists.{Call, fetch, decode, operands, execute, outcome_of}
 
 module _ (M : Machine) where
-  open M use {State, FetchCall, DecodeCall, OperandsCall, ExecuteCall, fetch_of, decode_of, operands_of, execute_of}
+  open M use {State, FetchArgs, DecodeArgs, OperandsArgs, ExecuteArgs, fetch_of, decode_of, operands_of, execute_of}
   open M use {ergs, lasting, is_local, depth, stage, kept, keeps, passes, row_ergs, row_lasting}
 
   -- Demand 1: "a refusal hands back the state it was given and alters no word of the frame store"
@@ -32,7 +32,7 @@ module _ (M : Machine) where
     pub store_same : o.store ≡ store
 
   -- a near call: the opened frame is local and holds what is passed; its caller is saved as the next row, with the rest
-  pub record OpensFrame (x : ExecuteCall) (s : State) (store : List ℕ) (o : Outcome State) : Type 0 where
+  pub record OpensFrame (x : ExecuteArgs) (s : State) (store : List ℕ) (o : Outcome State) : Type 0 where
     pub depth_up : depth o.state ≡ suc (depth s)
     pub local_new : is_local (lasting o.state) ≡ true
     pub passed : ergs o.state ≡ passes x s
@@ -49,7 +49,7 @@ module _ (M : Machine) where
     pub store_same : o.store ≡ store
 
   -- what execute does, by the kept record's operation
-  abbrev pub Performs : FrameOperation → ExecuteCall → State → List ℕ → Outcome State → Type 0
+  abbrev pub Performs : FrameOperation → ExecuteArgs → State → List ℕ → Outcome State → Type 0
   Performs near_call x s store o = OpensFrame x s store o
   Performs ret x s store o = ClosesFrame s store o
   Performs neither x s store o = Spends 0 s store o
@@ -57,11 +57,11 @@ module _ (M : Machine) where
   pub record Laws : Type 0 where
     pub refused : (c : Call M) (s : State) (store : List ℕ) → finished (outcome_of M c s store) ≡ false → Unchanged s store (outcome_of M c s store)
     pub advances : (c : Call M) (s : State) (store : List ℕ) → finished (outcome_of M c s store) ≡ true → Advances c s (outcome_of M c s store)
-    pub fetch_spends : (x : FetchCall) (s : State) (store : List ℕ) → finished (fetch_of x s store) ≡ true → Spends 0 s store (fetch_of x s store)
-    pub decode_spends : (x : DecodeCall) (s : State) (store : List ℕ)
+    pub fetch_spends : (x : FetchArgs) (s : State) (store : List ℕ) → finished (fetch_of x s store) ≡ true → Spends 0 s store (fetch_of x s store)
+    pub decode_spends : (x : DecodeArgs) (s : State) (store : List ℕ)
         → finished (decode_of x s store) ≡ true → Spends (charge_of M x s) s store (decode_of x s store)
-    pub decode_keeps : (x : DecodeCall) (s : State) (store : List ℕ) → finished (decode_of x s store) ≡ true → kept (decode_of x s store).state ≡ keeps x s
-    pub operands_spends : (x : OperandsCall) (s : State) (store : List ℕ) → finished (operands_of x s store) ≡ true → Spends 0 s store (operands_of x s store)
-    pub operands_keeps : (x : OperandsCall) (s : State) (store : List ℕ) → finished (operands_of x s store) ≡ true → kept (operands_of x s store).state ≡ kept s
-    pub execute_performs : (x : ExecuteCall) (s : State) (store : List ℕ)
+    pub decode_keeps : (x : DecodeArgs) (s : State) (store : List ℕ) → finished (decode_of x s store) ≡ true → kept (decode_of x s store).state ≡ keeps x s
+    pub operands_spends : (x : OperandsArgs) (s : State) (store : List ℕ) → finished (operands_of x s store) ≡ true → Spends 0 s store (operands_of x s store)
+    pub operands_keeps : (x : OperandsArgs) (s : State) (store : List ℕ) → finished (operands_of x s store) ≡ true → kept (operands_of x s store).state ≡ kept s
+    pub execute_performs : (x : ExecuteArgs) (s : State) (store : List ℕ)
         → finished (execute_of x s store) ≡ true → Performs (kept s) x s store (execute_of x s store)

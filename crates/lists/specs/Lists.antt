@@ -5,14 +5,14 @@ use Rattle.lists.specs.Machine.{Machine, Outcome, FrameOperation, near_call, ret
 -- ---- calls
 -- a call of a stage, with what it is given besides the state and the store
 pub data Call (M : Machine) : Type 0 where
-  fetch : M.FetchCall → Call M
-  decode : M.DecodeCall → Call M
-  operands : M.OperandsCall → Call M
-  execute : M.ExecuteCall → Call M
+  fetch : M.FetchArgs → Call M
+  decode : M.DecodeArgs → Call M
+  operands : M.OperandsArgs → Call M
+  execute : M.ExecuteArgs → Call M
 
 -- a call in a list, with the state and the store that it is given
-pub data Called (M : Machine) : Type 0 where
-  called : Call M → M.State → List ℕ → Called M
+pub data CallMade (M : Machine) : Type 0 where
+  made : Call M → M.State → List ℕ → CallMade M
 
 module _ (M : Machine) where
   open M use {State, fetch_of, decode_of, operands_of, execute_of}
@@ -24,14 +24,14 @@ module _ (M : Machine) where
   outcome_of (execute x) s store = execute_of x s store
 
   -- "Every stage gets the state last handed back, by a refusal too, and the one same store, which nobody but these calls writes meanwhile."
-  unfoldable pub trace : List (Call M) → State → List ℕ → List (Called M)
+  unfoldable pub trace : List (Call M) → State → List ℕ → List (CallMade M)
   trace [] s store = []
-  trace (c ∷ cs) s store = called c s store ∷ trace cs (outcome_of c s store).state (outcome_of c s store).store
+  trace (c ∷ cs) s store = made c s store ∷ trace cs (outcome_of c s store).state (outcome_of c s store).store
 
   -- the calls that finished; the refused ones are left out
-  unfoldable pub finished_of : List (Called M) → List (Called M)
+  unfoldable pub finished_of : List (CallMade M) → List (CallMade M)
   finished_of [] = []
-  finished_of (called c s store ∷ es) = cond (finished (outcome_of c s store)) (called c s store ∷ finished_of es) (finished_of es)
+  finished_of (made c s store ∷ es) = cond (finished (outcome_of c s store)) (made c s store ∷ finished_of es) (finished_of es)
 
 -- ---- cycles
 -- what a call of a cycle is given
@@ -41,28 +41,28 @@ pub record Given (State Input : Type 0) : Type 0 where
   pub store : List ℕ
 
 pub record Cycle (M : Machine) : Type 0 where
-  pub fetch : Given M.State M.FetchCall
-  pub decode : Given M.State M.DecodeCall
-  pub operands : Given M.State M.OperandsCall
-  pub execute : Given M.State M.ExecuteCall
+  pub fetch : Given M.State M.FetchArgs
+  pub decode : Given M.State M.DecodeArgs
+  pub operands : Given M.State M.OperandsArgs
+  pub execute : Given M.State M.ExecuteArgs
 
 module _ (M : Machine) where
   open M use {State}
 
-  abbrev pub event_of : {Input : Type 0} → (Input → Call M) → Given State Input → Called M
-  event_of stage g = called (stage g.input) g.state g.store
+  abbrev pub made_of : {Input : Type 0} → (Input → Call M) → Given State Input → CallMade M
+  made_of stage g = made (stage g.input) g.state g.store
 
   -- the calls of cycles, one cycle right after the other
-  unfoldable pub events_of : List (Cycle M) → List (Called M)
-  events_of [] = []
-  events_of (c ∷ cs) = event_of fetch c.fetch ∷ event_of decode c.decode ∷ event_of operands c.operands ∷ event_of execute c.execute ∷ events_of cs
+  unfoldable pub calls_made : List (Cycle M) → List (CallMade M)
+  calls_made [] = []
+  calls_made (c ∷ cs) = made_of fetch c.fetch ∷ made_of decode c.decode ∷ made_of operands c.operands ∷ made_of execute c.execute ∷ calls_made cs
 
   -- "A cycle is a fetch, decode, operands and execute of the list, all finished, in turn; refused calls may stand between." These are cycles of the list, with no
   -- other finished call between them.
   pub record InTurn (calls : List (Call M)) (s : State) (store : List ℕ) (cycles : List (Cycle M)) : Type 0 where
-    pub earlier : List (Called M)
-    pub later : List (Called M)
-    pub found : finished_of M (trace M calls s store) ≡ earlier ++ (events_of cycles ++ later)
+    pub earlier : List (CallMade M)
+    pub later : List (CallMade M)
+    pub found : finished_of M (trace M calls s store) ≡ earlier ++ (calls_made cycles ++ later)
 
 -- ---- what a cycle charges, opens, closes and keeps back
 unfoldable pub sum : {A : Type 0} → (A → ℕ) → List A → ℕ
@@ -89,7 +89,7 @@ module _ (M : Machine) where
   abbrev pub result : Cycle M → Outcome State
   result c = execute_of c.execute.input c.execute.state c.execute.store
 
-  -- "Its charge goes by the plain record's price, 0 when ended, and the current frame's ergs in the state given to decode."
+  -- "Its charge goes by the plain record's price, 0 when ended, and the current frame's ergs in the state given to decode." `charge_of` is in Machine.antt.
   unfoldable pub charge : Cycle M → ℕ
   charge c = charge_of M c.decode.input c.decode.state
 

@@ -22,14 +22,14 @@ finished o = elim o.refusal [ none ↦ true | some n ↦ false ]
 pub record Machine : Type 1 where
   pub State : Type 0
   -- what a call of each stage is given besides the state and the store: settings, words, records, which may differ from call to call
-  pub FetchCall : Type 0
-  pub DecodeCall : Type 0
-  pub OperandsCall : Type 0
-  pub ExecuteCall : Type 0
-  pub fetch_of : FetchCall → State → List ℕ → Outcome State
-  pub decode_of : DecodeCall → State → List ℕ → Outcome State
-  pub operands_of : OperandsCall → State → List ℕ → Outcome State
-  pub execute_of : ExecuteCall → State → List ℕ → Outcome State
+  pub FetchArgs : Type 0
+  pub DecodeArgs : Type 0
+  pub OperandsArgs : Type 0
+  pub ExecuteArgs : Type 0
+  pub fetch_of : FetchArgs → State → List ℕ → Outcome State
+  pub decode_of : DecodeArgs → State → List ℕ → Outcome State
+  pub operands_of : OperandsArgs → State → List ℕ → Outcome State
+  pub execute_of : ExecuteArgs → State → List ℕ → Outcome State
   -- what no stage changes of a frame as long as it lives, and by that, whether the frame is local
   pub Lasting : Type 0
   pub is_local : Lasting → Bool
@@ -40,20 +40,20 @@ pub record Machine : Type 1 where
   pub stage : State → Reached
   pub kept : State → FrameOperation
   -- of what decode is given: the plain record's price, and the operation of the record that Decode's rules keep
-  pub plain_price : DecodeCall → State → ℕ
-  pub keeps : DecodeCall → State → FrameOperation
+  pub plain_price : DecodeArgs → State → ℕ
+  pub keeps : DecodeArgs → State → FrameOperation
   -- of what execute is given: the ergs that Execute's rule for a near call passes
-  pub passes : ExecuteCall → State → ℕ
+  pub passes : ExecuteArgs → State → ℕ
   -- the number of words in a row; of a row's words, the ergs and what lasts of the frame
   pub row_width : ℕ
   pub row_ergs : List ℕ → ℕ
   pub row_lasting : List ℕ → Lasting
 
 module _ (M : Machine) where
-  open M use {State, DecodeCall, ergs, depth, plain_price, row_width}
+  open M use {State, DecodeArgs, ergs, depth, plain_price, row_width}
 
   -- "A charge is the smaller of the price and the ergs held." Document 01: "Price is 0 when ended", "execution has ended exactly at depth 0".
-  unfoldable pub charge_of : DecodeCall → State → ℕ
+  unfoldable pub charge_of : DecodeArgs → State → ℕ
   charge_of x s = min (cond (eqb (depth s) 0) 0 (plain_price x s)) (ergs s)
 
   -- the words of row i

@@ -1,5 +1,5 @@
 -- How a near call divides the ergs. Document 01: "Near call wants the low 32 bits of src0 times the multiplier, 4,294,967,295 if too large; 0, or more than held,
--- passes all."
+-- passes all." These low bits are taken in stages/specs/Execute.antt.
 use Rattle.std.specs.Prelude.{ℕ, ◌*◌, min, true, cond, ◌||◌, pos, ◌==◌, nat_lt}
 use Rattle.frame.specs.declared.Frame.{Frame}
 

@@ -1,5 +1,6 @@
 -- The sums of a local return. Document 01: "return ok: pubdata sum outside 32 signed bits" (10); "revert counter after it (on ok, as it is) outside 32 signed bits or
--- below 0" (11); "ergs sum above 4,294,967,295" (12); "a heap bound below the caller's" (13); "Return to label wins over the handler." Revert counts as panicked.
+-- below 0" (11); "ergs sum above 4,294,967,295" (12); "a heap bound below the caller's" (13); "Return to label wins over the handler." Revert counts as panicked. The ergs are
+-- added up in stages/specs/Ret.antt.
 use Rattle.std.specs.Prelude.{ℕ, ◌+◌, ◌^◌, Bool, true, false, cond, ◌||◌, ℤ, pos, negsuc, Option, Some, None, ◌==◌, nat_le, nat_lt}
 use Rattle.signed.specs.Signed.{checked_sum, checked_difference}
 use Rattle.frame.specs.declared.Frame.{Frame}

@@ -1,4 +1,4 @@
-// What the operations of execute do, without the machine state: near call, return, add, sub, and the time after a cycle.
+// What the operations of execute do, without the machine state: near call, return, add, sub, next pc and time.
 #![tactic(auto)]
 
 pub mod arithmetic;

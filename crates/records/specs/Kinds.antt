@@ -7,8 +7,8 @@ use Rattle.records.specs.declared.kinds.OperandKind.{OperandKind}
 use Rattle.records.specs.declared.kinds.Condition.{Condition}
 use Rattle.records.specs.declared.kinds.NoSuchKind.{NoSuchKind}
 
-abbrev pub operations : List Operation
-operations = Operation.Nop ∷ Operation.Add ∷ Operation.Sub ∷ Operation.NearCall ∷ Operation.Ret ∷ Operation.Other ∷ []
+abbrev pub operation_kinds : List Operation
+operation_kinds = Operation.Nop ∷ Operation.Add ∷ Operation.Sub ∷ Operation.NearCall ∷ Operation.Ret ∷ Operation.Other ∷ []
 
 abbrev pub operand_kinds : List OperandKind
 operand_kinds =
@@ -25,7 +25,7 @@ numbered_in (k ∷ ks) zero = Ok k
 numbered_in (k ∷ ks) (suc n) = numbered_in ks n
 
 abbrev pub operation_numbered : ℕ → Result Operation NoSuchKind
-operation_numbered n = numbered_in operations n
+operation_numbered n = numbered_in operation_kinds n
 
 abbrev pub operand_numbered : ℕ → Result OperandKind NoSuchKind
 operand_numbered n = numbered_in operand_kinds n

@@ -33,11 +33,20 @@ is_near_call r = r.operation == 3
 abbrev pub is_return : Record → Bool
 is_return r = r.operation == 4
 
+-- one that is not carried over
+abbrev pub is_other : Record → Bool
+is_other r = r.operation == 5
+
+-- return kinds 0 ok, 1 revert, 2 panic
+abbrev pub is_return_ok : Record → Bool
+is_return_ok r = r.return_kind == 0
+
 -- a panic return
 abbrev pub is_panic : Record → Bool
 is_panic r = is_return r && r.return_kind == 2
 
--- refusal 3 of decode: a record that is not good, "panic record not a panic return, nop record not a nop; ended and plain record not a nop on which decode sets
+-- ---- refusal 3 of decode
+-- a record that is not good, "panic record not a panic return, nop record not a nop; ended and plain record not a nop on which decode sets
 -- no flag; exception and plain record not a panic return"
 unfoldable pub bad_records : Records → Bool → Bool → Bool → Bool
 bad_records r ended pending flagged =

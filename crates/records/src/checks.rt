@@ -1,5 +1,5 @@
 // What is checked of records: each field in its list, and whether the three may come together.
-ghost use Rattle.std.specs.Prelude.{◌≡◌, if◌then◌else◌, nat_le};
+ghost use Rattle.std.specs.Prelude.{◌≡◌, nat_le};
 ghost use Rattle.records.specs.Record.{good_kinds, good_registers, good_record, is_panic, is_nop, bad_records};
 
 use crate::kinds::{Condition, OperandKind, Operation, ReturnKind};

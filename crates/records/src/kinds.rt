@@ -1,4 +1,4 @@
-// The lists of a record's fields, and the kinds of memory. A record has their numbers, since one that is in no list has to be answered too. An enum is cast
+// The lists of a record's fields. A record has their numbers, since one that is in no list has to be answered too. An enum is cast
 // to its number where it is written or compared: a `From` for each would hold that cast and no more.
 ghost use Rattle.std.specs.Prelude.{◌≡◌, Some};
 ghost use Rattle.records.specs.Kinds.{operation_numbered, operand_numbered, condition_numbered, return_kind_text};
@@ -43,12 +43,6 @@ pub enum Condition {
     Le,
     Ne,
     GtOrLt,
-}
-
-#[derive(Clone, Copy, Debug, PartialEq, Eq)]
-pub enum MemoryType {
-    Stack = 1,
-    Code,
 }
 
 // A number that is in no list.

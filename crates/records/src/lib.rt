@@ -1,4 +1,4 @@
-// Instruction records, settings and flags, and the checks of them that stages share.
+// Instruction records with the lists of their fields, settings and flags; refusal 3, and refusal 1 of every stage.
 #![tactic(auto)]
 
 pub mod checks;

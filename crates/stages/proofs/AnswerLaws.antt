@@ -8,7 +8,7 @@ use Rattle.refusal.specs.Refusal.{Check, first_of, refusal_number}
 use Rattle.refusal.proofs.NumberLaws.{all_numbered, number_first}
 use Rattle.refusal.proofs.RefusalLaws.{clear}
 use Rattle.records.specs.declared.Settings.{Settings}
-use Rattle.records.specs.Record.{good_record}
+use Rattle.records.specs.Record.{good_record, is_return_ok}
 use Rattle.records.proofs.RecordLaws.{good_operation}
 use Rattle.addressing.specs.declared.Location.{Location}
 use Rattle.stages.specs.declared.State.{State}
@@ -16,7 +16,7 @@ use Rattle.stages.specs.declared.Staged.{Staged}
 use Rattle.stages.specs.declared.ExecuteInput.{ExecuteInput}
 use Rattle.stages.specs.declared.ExecuteAnswer.{ExecuteAnswer}
 use Rattle.stages.specs.State.{record_of, refused_with, settled}
-use Rattle.stages.specs.Checks.{is_ok, is_stored, sources_in, top_frame, execute_checks}
+use Rattle.stages.specs.Checks.{is_stored, sources_in, top_frame, execute_checks}
 use Rattle.stages.specs.Helpers.{write_of, nop_done}
 use Rattle.stages.specs.Arithmetic.{result_in, arithmetic_done}
 use Rattle.stages.specs.NearCall.{near_call_done}
@@ -67,7 +67,7 @@ module _ (settings : Settings) (input : ExecuteInput) (s : State) (store : List 
   sum_write = location_case s.kept.write ++ ((s.timestamp + 3) ∷ value_of (result_in a b s).0 ∷ 0 ∷ [])
 
   abbrev closing : List ℕ
-  closing = 2 ∷ bool_byte (not (is_ok s)) ∷ []
+  closing = 2 ∷ bool_byte (not (is_return_ok (record_of s))) ∷ []
 
   written : (l : Location)
       → write_case (write_of l s.timestamp (record { value = (result_in a b s).0; is_pointer = false })) ∷ nothing ∷ []

@@ -1,10 +1,11 @@
 -- Execute's refusal and its choice of the operation. Assumes nothing.
-use Rattle.std.proofs.Common.{◌≡◌, ℕ, ◌<◌, ◌≤◌, Bool, true, false, cond, not, ◌||◌, eqb, List, [], refl, sym, ◌∙◌, arith}
+use Rattle.std.proofs.Common.{◌≡◌, ℕ, ◌<◌, ◌≤◌, Bool, true, false, cond, not, ◌||◌, eqb, List, refl, sym, ◌∙◌, arith}
 use Rattle.u256.specs.U256.{low_of}
 use Rattle.std.specs.Prelude.{Err}
 use Rattle.refusal.specs.declared.Refusal.{Refusal}
 use Rattle.refusal.specs.Refusal.{first_of, paper_number}
 use Rattle.frame.specs.Kernel.{kernel_mode}
+use Rattle.frame.specs.Row.{good_row}
 use Rattle.frame.specs.Store.{saved_store}
 use Rattle.records.specs.declared.Settings.{Settings}
 use Rattle.records.specs.Record.{good_record}
@@ -16,13 +17,13 @@ use Rattle.stages.specs.declared.Staged.{Staged}
 use Rattle.stages.specs.declared.ExecuteInput.{ExecuteInput}
 use Rattle.stages.specs.declared.ExecuteAnswer.{ExecuteAnswer}
 use Rattle.stages.specs.State.{at_execute, record_of, bad_store, out_of_turn, refused_with, settled}
-use Rattle.stages.specs.Checks.{sources_in, top_frame, operation_checks, execute_checks}
+use Rattle.stages.specs.Checks.{sources_in, top_row, top_frame, execute_checks}
 use Rattle.stages.specs.Helpers.{nop_done}
 use Rattle.stages.specs.Arithmetic.{arithmetic_done}
 use Rattle.stages.specs.NearCall.{caller_in, near_call_done}
 use Rattle.stages.specs.Ret.{close_done}
 use Rattle.stages.specs.Execute.{execute_done, execute_of, execute_store}
-use Rattle.stages.specs.Parts.{nop_of, arithmetic_of, near_call_of, near_call_store, return_of}
+use Rattle.stages.specs.ByOperation.{operation_checks, nop_of, arithmetic_of, near_call_of, near_call_store, return_of}
 use Rattle.stages.proofs.CheckLaws.{not_zero, settled_refused}
 use Rattle.stages.proofs.AnswerLaws.{Ensured, ensured}
 
@@ -85,33 +86,33 @@ module _ (settings : Settings) (input : ExecuteInput) (s : State) (store : List 
         → eqb (record_of s).operation 3 ≡ call → eqb (record_of s).operation 4 ≡ ret
         → (after : List ℕ)
         → r
-        ≡ settled (first_of (operation_checks ret call sum 16 settings s store)) (refused_with s)
+        ≡ settled (first_of (operation_checks ret call sum (good_row 16 (top_row s store)) (top_frame s store) settings s)) (refused_with s)
         (cond nop (nop_done 16 settings s)
         (cond sum (arithmetic_done 16 settings sources.src0.value sources.src1.value s)
         (cond call (near_call_done 16 settings (low_of 32 sources.src0.value) s) (close_done settings (top_frame s store) s))))
         → after
-        ≡ cond (eqb (first_of (operation_checks ret call sum 16 settings s store)) 0)
+        ≡ cond (eqb (first_of (operation_checks ret call sum (good_row 16 (top_row s store)) (top_frame s store) settings s)) 0)
         (cond call (saved_store store s.depth (caller_in 16 settings (low_of 32 sources.src0.value) s)) store) store
         → Ensured settings input s store r after
     unfolding execute_of execute_done execute_store
     by_operation nop sum call ret en eu' ec et after er ea =
         ensured settings input s store r after (rw (first, en, eu', ec, ← es) er) (rw (first, ec, ← es) ea)
       where
-        first : first_of (execute_checks 16 settings input s store) ≡ first_of (operation_checks ret call sum 16 settings s store)
+        first : first_of (execute_checks 16 settings input s store) ≡ first_of (operation_checks ret call sum (good_row 16 (top_row s store)) (top_frame s store) settings s)
         first =
             rw (← es, ← ez, ← eu, ← eg, ← ek, ← eh, ← et, ← ec, ← eu')
             (none sizes turn (not good) (eqb (record_of s).operation 5) held _ z)
 
     pub at_nop : (record_of s).operation ≡ 0 → r ≡ nop_of 16 settings s → Ensured settings input s store r store
     unfolding nop_of
-    at_nop o e = by_operation true false false false (grind arith) (grind arith) (grind arith) (grind arith) store e (same (first_of (operation_checks false false false 16 settings s [])))
+    at_nop o e = by_operation true false false false (grind arith) (grind arith) (grind arith) (grind arith) store e (same (first_of (operation_checks false false false true s.current settings s)))
 
     pub at_sum : ((record_of s).operation ≡ 0 → ⊥) → (record_of s).operation < 3
         → r ≡ arithmetic_of 16 settings sources.src0.value sources.src1.value s → Ensured settings input s store r store
     unfolding arithmetic_of
     at_sum n h e =
         let t = sum_tests (record_of s).operation n h in
-        by_operation false true false false t.0 t.1 t.2 t.3 store e (same (first_of (operation_checks false false true 16 settings s [])))
+        by_operation false true false false t.0 t.1 t.2 t.3 store e (same (first_of (operation_checks false false true true s.current settings s)))
 
     pub at_call : (record_of s).operation ≡ 3 → r ≡ near_call_of 16 settings (low_of 32 sources.src0.value) s
         → (after : List ℕ) → after ≡ near_call_store 16 settings (low_of 32 sources.src0.value) s store → Ensured settings input s store r after
@@ -123,4 +124,4 @@ module _ (settings : Settings) (input : ExecuteInput) (s : State) (store : List 
     unfolding return_of
     at_return n m h e =
         let o = returning sizes turn held good (record_of s).operation z (λ t. good_operation (record_of s) (sym eg ∙ t)) n m h in
-        by_operation false false false true (grind arith) (grind arith) (grind arith) (grind arith) store e (same (first_of (operation_checks true false false 16 settings s store)))
+        by_operation false false false true (grind arith) (grind arith) (grind arith) (grind arith) store e (same (first_of (operation_checks true false false (good_row 16 (top_row s store)) (top_frame s store) settings s)))

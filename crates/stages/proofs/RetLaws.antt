@@ -13,9 +13,9 @@ use Rattle.stages.specs.declared.State.{State}
 use Rattle.stages.specs.declared.Staged.{Staged}
 use Rattle.stages.specs.declared.ExecuteAnswer.{ExecuteAnswer}
 use Rattle.stages.specs.State.{bad_store}
-use Rattle.stages.specs.Checks.{top_row, top_frame, closing_checks, operation_checks}
+use Rattle.stages.specs.Checks.{top_row, top_frame}
 use Rattle.stages.specs.Ret.{close_done}
-use Rattle.stages.specs.Parts.{close_of, return_of}
+use Rattle.stages.specs.ByOperation.{operation_checks, closing_checks, close_of, return_of}
 use Rattle.stages.proofs.CheckLaws.{settled_refused}
 
 -- 7 or 8, where one of the first two tests holds
@@ -37,7 +37,7 @@ read_err a b g x t e = grind arith
 
 module _ (settings : Settings) (s : State) (store : List ℕ) (r : Staged ExecuteAnswer) where
   abbrev checked : ℕ
-  checked = first_of (operation_checks true false false 16 settings s store)
+  checked = first_of (operation_checks true false false (good_row 16 (top_row s store)) (top_frame s store) settings s)
 
   pub early : (not s.current.is_local_frame || eqb s.depth 0) ≡ true
       → (q : Refusal) → q ≡ cond (not s.current.is_local_frame) Refusal.FarReturn Refusal.NoCaller → r ≡ record { state = s; answer = Err q }
@@ -50,7 +50,7 @@ module _ (settings : Settings) (s : State) (store : List ℕ) (r : Staged Execut
 
   module _ (z : (not s.current.is_local_frame || eqb s.depth 0) ≡ false) (row : Result Frame RowError) (er : row ≡ read_of 16 store (s.depth - 1)) where
     -- by whether the row is good
-    by_row : checked ≡ cond (not (good_row 16 (top_row s store))) 8 (first_of (closing_checks true false settings s (top_frame s store)))
+    by_row : checked ≡ cond (not (good_row 16 (top_row s store))) 8 (first_of (closing_checks settings (top_frame s store) s))
     by_row = rw ((or_parts (not s.current.is_local_frame) (eqb s.depth 0) z).0, (or_parts (not s.current.is_local_frame) (eqb s.depth 0) z).1) refl
 
     pub found : (caller : Frame) → row ≡ Ok caller → r ≡ close_of settings caller s → r ≡ return_of 16 settings s store

@@ -1,6 +1,8 @@
--- The refusals of the stages: for each stage one list of checks, in the order of document 01's table. "Checks run by number", so the first that holds decides. 15 is
--- the tally's.
-use Rattle.std.specs.Prelude.{ℕ, ◌+◌, ◌-◌, ◌^◌, Bool, true, false, not, ◌&&◌, ◌||◌, List, [], ◌∷◌, ◌==◌, nat_eq, nat_le}
+-- The refusals of the stages: for each stage one list of checks, in the order of document 01's table, whose words stand beside them. "Checks run by number", so the first
+-- that holds decides. 15 is the tally's. Of every stage: 1, "limit 0 or above the store's whole rows, or depth above limit", and 2, "stage out of turn"; of all but fetch
+-- 3, whose words are in records/specs/Record.antt. w is the width of sp, pc, handler and immediates, 16 in the production encoding, here and in the definitions of the
+-- stages.
+use Rattle.std.specs.Prelude.{ℕ, ◌+◌, ◌-◌, ◌^◌, Bool, true, false, not, ◌&&◌, ◌||◌, List, [], ◌∷◌, ◌==◌, nat_le}
 use Rattle.refusal.specs.Refusal.{Check, ◌refuses◌}
 use Rattle.frame.specs.declared.Frame.{Frame}
 use Rattle.frame.specs.Kernel.{kernel_mode}
@@ -8,7 +10,7 @@ use Rattle.frame.specs.Row.{frame_of, good_row}
 use Rattle.frame.specs.Store.{row_at}
 use Rattle.records.specs.declared.Settings.{Settings}
 use Rattle.records.specs.declared.Records.{Records}
-use Rattle.records.specs.Record.{good_record, is_arithmetic, is_near_call, is_return, bad_records}
+use Rattle.records.specs.Record.{good_record, is_arithmetic, is_near_call, is_return, is_other, is_return_ok, bad_records}
 use Rattle.decoding.specs.declared.ErrorFlags.{ErrorFlags}
 use Rattle.decoding.specs.Charge.{error_flags, any_error}
 use Rattle.addressing.specs.declared.Location.{Location}
@@ -22,7 +24,7 @@ use Rattle.stages.specs.declared.ExecuteInput.{ExecuteInput}
 use Rattle.stages.specs.State.{at_fetch, at_decode, at_operands, at_execute, is_ended, record_of, bad_store, out_of_turn}
 
 -- ---- fetch
--- 4, "ended and pending"
+-- "fetch: ended and pending"
 abbrev pub fetch_checks : Settings → State → List ℕ → List Check
 fetch_checks settings s store =
     (bad_store settings s store refuses 1) ∷ (out_of_turn at_fetch s refuses 2) ∷ ((is_ended s && s.pending_exception) refuses 4) ∷ []
@@ -40,7 +42,7 @@ decode_checks settings records s store =
     ∷ []
 
 -- ---- operands
--- "On later stages 3 is about the kept record." 14 is "page of a stack kind", above 32 bits.
+-- "On later stages 3 is about the kept record." "operands: page of a stack kind; ... above 32 bits"
 abbrev pub operands_checks : Settings → State → List ℕ → List Check
 operands_checks settings s store =
     (bad_store settings s store refuses 1)
@@ -50,37 +52,26 @@ operands_checks settings s store =
     ∷ []
 
 -- ---- execute
--- the operands, by the word read and its pointer bit, and refusal 6: "after the swap, pointer in a place that may not hold one, not kernel"
+-- the operands, by the word read and its pointer bit
 abbrev pub sources_in : ExecuteInput → State → Sources
 sources_in input s = sources_of (record_of s) s.registers s.pointers input.word input.pointer
 
 abbrev pub pointer_in : ExecuteInput → State → Bool
 pointer_in input s = pointer_refused (kernel_mode s.current) (record_of s) (sources_in input s).src0.is_pointer (sources_in input s).src1.is_pointer
 
--- the top row, and the caller that it holds
-abbrev pub top_row : State → List ℕ → List ℕ
-top_row s store = row_at store (s.depth - 1)
-
-abbrev pub top_frame : State → List ℕ → Frame
-top_frame s store = frame_of (top_row s store)
-
--- return kinds 0 ok, 1 revert, 2 panic
-abbrev pub is_ok : State → Bool
-is_ok s = (record_of s).return_kind == 0
-
--- "return ok: pubdata sum outside 32 signed bits"
+-- the sums of a return to this caller
 abbrev pub bad_pubdata : State → Frame → Bool
-bad_pubdata s caller = is_outside (pubdata_after (is_ok s) caller.total_pubdata_spent.0 s.current.total_pubdata_spent.0)
+bad_pubdata s caller = is_outside (pubdata_after (is_return_ok (record_of s)) caller.total_pubdata_spent.0 s.current.total_pubdata_spent.0)
 
--- "revert counter after it (on ok, as it is) outside 32 signed bits or below 0"
 abbrev pub bad_reverts : State → Bool
-bad_reverts s = is_bad_counter (counter_after (is_ok s) s.pubdata_revert_counter.0 s.current.total_pubdata_spent.0)
+bad_reverts s = is_bad_counter (counter_after (is_return_ok (record_of s)) s.pubdata_revert_counter.0 s.current.total_pubdata_spent.0)
 
--- "time of a memory write"
+-- whether a write location is kept
 abbrev pub is_stored : Location → Bool
 is_stored Location.None = false
 is_stored (Location.At kind page index) = true
 
+-- "time of a memory write"
 abbrev pub late_write : State → Bool
 late_write s = is_stored s.kept.write && nat_le (2 ^ 32) (s.timestamp + 3)
 
@@ -88,29 +79,45 @@ late_write s = is_stored s.kept.write && nat_le (2 ^ 32) (s.timestamp + 3)
 abbrev pub late_in : Settings → State → Bool
 late_in settings s = is_late s.timestamp settings.time_step s.monotonic_cycle_counter (is_ended s)
 
--- The list in three parts, so that each operation has those that are about it. 10 to 14: whether it is a return, to this caller, and whether it is add or sub.
-abbrev pub closing_checks : Bool → Bool → Settings → State → Frame → List Check
-closing_checks ret sum settings s caller =
-    ((ret && bad_pubdata s caller) refuses 10)
-    ∷ ((ret && bad_reverts s) refuses 11)
-    ∷ ((ret && ergs_past caller.ergs_remaining s.current.ergs_remaining) refuses 12)
-    ∷ ((ret && is_shrunk caller s.current) refuses 13)
-    ∷ ((sum && late_write s || late_in settings s) refuses 14)
-    ∷ []
-
--- 7 to 14: whether it is a return, a near call, add or sub. "return at depth 0, or the top row is not good"; w is the width of sp, pc and handler.
-abbrev pub operation_checks : Bool → Bool → Bool → ℕ → Settings → State → List ℕ → List Check
-operation_checks ret call sum w settings s store =
-    ((ret && not s.current.is_local_frame) refuses 7)
-    ∷ ((ret && (is_ended s || not (good_row w (top_row s store)))) refuses 8)
-    ∷ ((call && s.depth == settings.depth_limit) refuses 9)
-    ∷ closing_checks ret sum settings s (top_frame s store)
-
-abbrev pub execute_checks : ℕ → Settings → ExecuteInput → State → List ℕ → List Check
-execute_checks w settings input s store =
+-- The list. It is told whether the kept record is a return, a near call, add or sub, whether the top row is good, and which frame it holds: a check is made where it
+-- is about the operation.
+abbrev pub checks_of : Bool → Bool → Bool → Bool → Frame → Settings → ExecuteInput → State → List ℕ → List Check
+checks_of ret near_call arithmetic good caller settings input s store =
+    -- as on the other stages
     (bad_store settings s store refuses 1)
     ∷ (out_of_turn at_execute s refuses 2)
     ∷ (not (good_record (record_of s)) refuses 3)
-    ∷ (nat_eq (record_of s).operation 5 refuses 5)
+    -- "execute: operation 5"
+    ∷ (is_other (record_of s) refuses 5)
+    -- "execute: after the swap, pointer in a place that may not hold one, not kernel"
     ∷ (pointer_in input s refuses 6)
-    ∷ operation_checks (is_return (record_of s)) (is_near_call (record_of s)) (is_arithmetic (record_of s)) w settings s store
+    -- "return from a frame that is not local"
+    ∷ ((ret && not s.current.is_local_frame) refuses 7)
+    -- "return at depth 0, or the top row is not good"
+    ∷ ((ret && (is_ended s || not good)) refuses 8)
+    -- "near call at depth equal to limit"
+    ∷ ((near_call && s.depth == settings.depth_limit) refuses 9)
+    -- "return ok: pubdata sum outside 32 signed bits"
+    ∷ ((ret && bad_pubdata s caller) refuses 10)
+    -- "return: revert counter after it (on ok, as it is) outside 32 signed bits or below 0"
+    ∷ ((ret && bad_reverts s) refuses 11)
+    -- "return: ergs sum above 4,294,967,295"
+    ∷ ((ret && ergs_past caller.ergs_remaining s.current.ergs_remaining) refuses 12)
+    -- "return: a heap bound below the caller's"
+    ∷ ((ret && is_shrunk caller s.current) refuses 13)
+    -- "execute: time of a memory write, time after the cycle, cycle counter; above 32 bits"
+    ∷ ((arithmetic && late_write s || late_in settings s) refuses 14)
+    ∷ []
+
+-- the top row, and the caller that it holds; a row that is not good has refused before that is looked at
+abbrev pub top_row : State → List ℕ → List ℕ
+top_row s store = row_at store (s.depth - 1)
+
+abbrev pub top_frame : State → List ℕ → Frame
+top_frame s store = frame_of (top_row s store)
+
+-- by the kept record and the store
+abbrev pub execute_checks : ℕ → Settings → ExecuteInput → State → List ℕ → List Check
+execute_checks w settings input s store =
+    checks_of (is_return (record_of s)) (is_near_call (record_of s)) (is_arithmetic (record_of s)) (good_row w (top_row s store)) (top_frame s store)
+    settings input s store

@@ -1,4 +1,5 @@
--- Execute. Document 01: operations 0 nop, 1 add, 2 sub, 3 near call, 4 return; "Checks run by number", all of them in Checks.antt.
+-- Execute. Document 01: operations 0 nop, 1 add, 2 sub, 3 near call, 4 return; "Checks run by number", all of them in Checks.antt. Nop is in
+-- Helpers.antt, each other operation in a file of its name, with its event.
 use Rattle.std.specs.Prelude.{ℕ, cond, List, ◌==◌}
 use Rattle.u256.specs.U256.{low_of}
 use Rattle.refusal.specs.Refusal.{first_of}
@@ -23,7 +24,7 @@ execute_refusal w settings input s store = first_of (execute_checks w settings i
 abbrev pub want_in : ExecuteInput → State → ℕ
 want_in input s = low_of 32 (sources_in input s).src0.value
 
--- by the operation, which is a return where it is none of the others
+-- by the operation: where nothing is refused, it is a return if it is none of the others
 unfoldable pub execute_done : ℕ → Settings → ExecuteInput → State → List ℕ → Staged ExecuteAnswer
 execute_done w settings input s store =
     cond (is_nop (record_of s)) (nop_done w settings s)

@@ -1,6 +1,6 @@
 -- Fetch. Document 01: "A query says whether a code read is wanted, and from which page and index: page or super pc changed, and not ended. It reads the state alone
 -- and never refuses. Fetch takes that word, not looked at when none was wanted." "The answer is 64 bits of code, or exception (pending), or nop (ended)."
-use Rattle.std.specs.Prelude.{ℕ, Bool, cond, List, Option, Ok, unwrap_or}
+use Rattle.std.specs.Prelude.{ℕ, Bool, cond, not, ◌&&◌, List, Option, Ok, unwrap_or}
 use Rattle.std.specs.Bool.{then_some}
 use Rattle.u256.specs.declared.U256.{U256}
 use Rattle.refusal.specs.Refusal.{first_of}
@@ -14,9 +14,10 @@ use Rattle.stages.specs.declared.FetchAnswer.{FetchAnswer}
 use Rattle.stages.specs.State.{at_decode, is_ended, refused_with, settled}
 use Rattle.stages.specs.Checks.{fetch_checks}
 
+-- "page or super pc changed, and not ended"
 abbrev pub code_wanted : State → Bool
 code_wanted s =
-    code_changed (is_ended s) s.current.code_page s.previous_code_memory_page (super_pc s.current.pc) s.previous_super_pc
+    not (is_ended s) && code_changed s.current.code_page s.previous_code_memory_page (super_pc s.current.pc) s.previous_super_pc
 
 abbrev pub location_if : Bool → ℕ → ℕ → Location
 location_if wanted page index = cond wanted (in_code page index) Location.None

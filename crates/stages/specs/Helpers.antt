@@ -1,5 +1,4 @@
--- What the operations of execute share, and nop. Document 01: "Nop sets pc only (from the specification)"; "A write carries time plus 3." w is the width of sp, pc and
--- immediates, 16 in the production encoding, here as in the operations after it.
+-- What the operations of execute share, and nop. Document 01: "Nop sets pc only (from the specification)"; "A write carries time plus 3."
 use Rattle.std.specs.Prelude.{ℕ, ◌+◌, Option, None, Some, Ok}
 use Rattle.records.specs.declared.Settings.{Settings}
 use Rattle.addressing.specs.declared.Location.{Location}

@@ -9,6 +9,6 @@ pub mod Arithmetic
 pub mod NearCall
 pub mod Ret
 pub mod Execute
-pub mod Parts
+pub mod ByOperation
 pub mod Answers
 pub mod Tells

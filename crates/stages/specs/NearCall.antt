@@ -1,5 +1,5 @@
--- Near call. Document 01: "Near call wants the low 32 bits of src0 times the multiplier". The caller is saved as the first free row, the flags are cleared. Document 02, CR 12: the opened frame has "the cycle counter that `start_frame` is given at its opening", which is the counter
--- before the cycle adds its 1.
+-- Near call. Document 01: "Near call wants the low 32 bits of src0 times the multiplier". The caller is saved as the first free row, the flags are cleared. Document 02,
+-- CR 12: the opened frame has "the cycle counter that `start_frame` is given at its opening", which is the counter before the cycle adds its 1.
 use Rattle.std.specs.Prelude.{ℕ, ◌+◌, ◌-◌, None, Some, Ok}
 use Rattle.frame.specs.declared.Frame.{Frame}
 use Rattle.records.specs.declared.Settings.{Settings}
@@ -9,7 +9,7 @@ use Rattle.stages.specs.declared.State.{State}
 use Rattle.stages.specs.declared.Event.{Event}
 use Rattle.stages.specs.declared.Staged.{Staged}
 use Rattle.stages.specs.declared.ExecuteAnswer.{ExecuteAnswer}
-use Rattle.stages.specs.State.{is_ended}
+use Rattle.stages.specs.State.{is_ended, record_of}
 use Rattle.stages.specs.Effects.{no_flags, switched_state}
 use Rattle.stages.specs.Helpers.{finished_in}
 
@@ -26,7 +26,7 @@ unfoldable pub near_call_done : ℕ → Settings → ℕ → State → Staged Ex
 near_call_done w settings want s = record {
   state =
       switched_state (finished_in settings s)
-      (opened_of (caller_in w settings want s) (passed_in settings want s) s.kept.instruction.imm_0 s.kept.instruction.imm_1 s.monotonic_cycle_counter)
+      (opened_of (caller_in w settings want s) (passed_in settings want s) (record_of s).imm_0 (record_of s).imm_1 s.monotonic_cycle_counter)
       (s.depth + 1)
       no_flags
       s.pubdata_revert_counter;

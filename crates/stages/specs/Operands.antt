@@ -16,7 +16,7 @@ use Rattle.stages.specs.Checks.{operands_checks}
 abbrev pub stack_page : State → ℕ
 stack_page s = s.current.base_memory_page + 1
 
--- the two places, at the width w of sp and immediates
+-- the two places
 abbrev pub places_in : ℕ → State → Places
 places_in w s = places_of w (record_of s) s.registers (stack_page s) s.current.code_page s.current.sp
 
@@ -26,7 +26,7 @@ operands_refusal settings s store = first_of (operands_checks settings s store)
 unfoldable pub addressed_state : State → ℕ → Location → State
 addressed_state s sp write = record {
   current = with_sp s.current sp;
-  kept = record { instruction = s.kept.instruction; write = write };
+  kept = record { instruction = record_of s; write = write };
   stage = at_execute;
   -- the rest as it was
   registers = s.registers;

@@ -1,4 +1,5 @@
--- The machine state. Document 01: "the stage reached (ready, fetched, decoded, operands)", "execution has ended exactly at depth 0".
+-- The machine state, whose fields are those of `State` in src/lib.rt. Document 01: "the stage reached (ready, fetched, decoded, operands)", "execution has ended exactly at
+-- depth 0". The word that fetch read is in Fetch.antt, until decode; what the state is after execute in Effects.antt.
 use Rattle.std.specs.Prelude.{ℕ, Bool, cond, not, List, length, Err, ◌==◌}
 use Rattle.refusal.specs.Refusal.{numbered_refusal}
 use Rattle.records.specs.declared.Settings.{Settings}
@@ -8,7 +9,7 @@ use Rattle.stages.specs.declared.Stage.{Stage}
 use Rattle.stages.specs.declared.State.{State}
 use Rattle.stages.specs.declared.Staged.{Staged}
 
--- the numbers of the stages reached, and of the stage that comes next then
+-- a state that is ready has the number at_fetch, for the stage that comes next; a fetched one at_decode; a decoded one at_operands; one that operands has gone over at_execute
 abbrev pub at_fetch : ℕ
 at_fetch = 0
 

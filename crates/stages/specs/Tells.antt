@@ -8,13 +8,13 @@ use Rattle.frame.specs.Kernel.{kernel_mode}
 use Rattle.registers.specs.Registers.{register_of}
 use Rattle.records.specs.declared.Settings.{Settings}
 use Rattle.records.specs.declared.Records.{Records}
-use Rattle.records.specs.Record.{is_nop, is_arithmetic, is_near_call, is_return}
+use Rattle.records.specs.Record.{is_nop, is_arithmetic, is_near_call, is_return, is_return_ok}
 use Rattle.decoding.specs.Code.{super_pc, sub_pc, code_bits}
 use Rattle.addressing.specs.Address.{vaddr_of}
 use Rattle.stages.specs.declared.State.{State}
 use Rattle.stages.specs.declared.ExecuteInput.{ExecuteInput}
 use Rattle.stages.specs.State.{is_ended, record_of}
-use Rattle.stages.specs.Checks.{is_ok, is_stored, sources_in}
+use Rattle.stages.specs.Checks.{is_stored, sources_in}
 use Rattle.stages.specs.Fetch.{code_wanted, code_word, fetch_refusal}
 use Rattle.stages.specs.Decode.{price_in, decode_refusal}
 use Rattle.stages.specs.Operands.{stack_page, operands_refusal}
@@ -89,7 +89,7 @@ write_tells input s =
 
 -- a near call opens a frame, a return closes one; revert and panic count as panicked
 abbrev pub event_tells : State → List ℕ
-event_tells s = cond (is_near_call (record_of s)) (1 ∷ []) (cond (is_return (record_of s)) (2 ∷ bool_byte (not (is_ok s)) ∷ []) (0 ∷ []))
+event_tells s = cond (is_near_call (record_of s)) (1 ∷ []) (cond (is_return (record_of s)) (2 ∷ bool_byte (not (is_return_ok (record_of s))) ∷ []) (0 ∷ []))
 
 abbrev pub execute_tells : ℕ → Settings → ExecuteInput → State → List ℕ → List (List ℕ)
 execute_tells w settings input s store = cond (execute_refusal w settings input s store == 0) (write_tells input s ∷ event_tells s ∷ []) []

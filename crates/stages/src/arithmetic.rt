@@ -1,6 +1,6 @@
 // Add and sub, after the Rust's `add.rs`, `sub.rs` and `perform_dst0_update`.
 ghost use Rattle.std.specs.Prelude.{◌≡◌, ◌+◌, ◌^◌, ◌&&◌, nat_le, if◌then◌else◌};
-ghost use Rattle.stages.specs.Parts.{arithmetic_of};
+ghost use Rattle.stages.specs.ByOperation.{arithmetic_of};
 
 use crate::{ExecuteAnswer, Executed, Staged, State, helpers};
 use addressing::PrimitiveValue;
@@ -24,7 +24,7 @@ fn register(stored: bool, n: u8) -> u8
 }
 
 impl State {
-    #[tactic(auto, unfolding(crate::specs::Parts::arithmetic_of, crate::specs::Arithmetic::arithmetic_done))]
+    #[tactic(auto, unfolding(crate::specs::ByOperation::arithmetic_of, crate::specs::Arithmetic::arithmetic_done))]
     pub(crate) fn arithmetic(self, settings: Settings, a: U256, b: U256) -> Executed
         ensures { result ≡ arithmetic_of 16 settings a b self }
     {

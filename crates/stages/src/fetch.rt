@@ -6,10 +6,9 @@ ghost use Rattle.stages.specs.Answers.{fetch_case, location_case};
 ghost use Rattle.stages.specs.Tells.{query_tells, fetch_tells};
 
 use crate::{FetchAnswer, Fetched, Stage, Staged, State};
-use addressing::Location;
+use addressing::{Location, MemoryType};
 use decoding::fetch;
 use records::Settings;
-use records::kinds::MemoryType;
 use refusal::Refusal;
 use u256::U256;
 
@@ -53,13 +52,13 @@ impl State {
     fn wants_code(self) -> bool
         ensures { result ≡ code_wanted self }
     {
-        fetch::code_changed(
-            self.is_ended(),
+        let changed = fetch::code_changed(
             self.current.code_page,
             self.previous_code_memory_page,
             fetch::super_pc(self.current.pc),
             self.previous_super_pc,
-        )
+        );
+        !self.is_ended() & changed
     }
 
     // Whether a code read is wanted, and from where.

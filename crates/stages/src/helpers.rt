@@ -5,7 +5,7 @@ ghost use Rattle.stages.specs.State.{stage_number, is_ended, bad_store, out_of_t
 ghost use Rattle.stages.specs.Effects.{no_flags, finished_state, moved_state, written_state, switched_state};
 ghost use Rattle.stages.specs.Checks.{late_in, is_stored};
 ghost use Rattle.stages.specs.Helpers.{finished_in, write_of};
-ghost use Rattle.stages.specs.Parts.{nop_of};
+ghost use Rattle.stages.specs.ByOperation.{nop_of};
 
 use crate::{ExecuteAnswer, Executed, Kept, Stage, Staged, State, Write};
 use addressing::{Location, PrimitiveValue};
@@ -197,7 +197,7 @@ impl State {
     }
 
     // Nop sets pc only.
-    #[tactic(auto, unfolding(crate::specs::Parts::nop_of, crate::specs::Helpers::nop_done))]
+    #[tactic(auto, unfolding(crate::specs::ByOperation::nop_of, crate::specs::Helpers::nop_done))]
     pub(crate) fn nop(self, settings: Settings) -> Executed
         ensures { result ≡ nop_of 16 settings self }
     {

@@ -70,13 +70,6 @@ pub struct DecodeAnswer {
     pub errors: ErrorFlags,
 }
 
-// What execute is given beside the settings and the store: the word read and its pointer bit, looked at only where operands gave a source location.
-#[derive(Clone, Copy)]
-pub struct ExecuteInput {
-    pub word: U256,
-    pub pointer: bool,
-}
-
 #[derive(Clone, Copy)]
 pub struct OperandsAnswer {
     pub source: Location,
@@ -98,6 +91,13 @@ pub struct Write {
 pub enum Event {
     Opened,
     Closed(bool),
+}
+
+// What execute is given besides the settings and the store: the word read and its pointer bit, looked at only where operands gave a source location.
+#[derive(Clone, Copy)]
+pub struct ExecuteInput {
+    pub word: U256,
+    pub pointer: bool,
 }
 
 #[derive(Clone, Copy)]

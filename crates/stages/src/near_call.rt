@@ -1,7 +1,7 @@
 // Near call, after the Rust's `near_call.rs`.
 ghost use Rattle.std.specs.Prelude.{◌≡◌, false};
 ghost use Rattle.stages.specs.State.{bad_store};
-ghost use Rattle.stages.specs.Parts.{near_call_of, near_call_store};
+ghost use Rattle.stages.specs.ByOperation.{near_call_of, near_call_store};
 
 use crate::{Event, ExecuteAnswer, Executed, Staged, State, helpers};
 use operations::{near_call, time};
@@ -10,7 +10,7 @@ use refusal::Refusal;
 
 impl State {
     // The caller's row is written at the first free row. Execute has tested the store (D62): a test here would be made twice.
-    #[tactic(auto, using(crate::proofs::NearCallLaws::room), unfolding(crate::specs::Parts::near_call_of, crate::specs::NearCall::near_call_done, crate::specs::Parts::near_call_store))]
+    #[tactic(auto, using(crate::proofs::NearCallLaws::room), unfolding(crate::specs::ByOperation::near_call_of, crate::specs::NearCall::near_call_done, crate::specs::ByOperation::near_call_store))]
     pub(crate) fn near_call(self, settings: Settings, want: u32, store: &mut [u32]) -> Executed
         requires { bad_store settings self store.old ≡ false }
         ensures { (result ≡ near_call_of 16 settings want self) × (store.new ≡ near_call_store 16 settings want self store.old) }

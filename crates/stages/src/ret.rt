@@ -2,7 +2,7 @@
 ghost use Rattle.std.specs.Prelude.{◌≡◌, false};
 ghost use Rattle.stages.specs.State.{bad_store};
 ghost use Rattle.stages.specs.Ret.{panic_flags};
-ghost use Rattle.stages.specs.Parts.{close_of, return_of};
+ghost use Rattle.stages.specs.ByOperation.{close_of, return_of};
 
 use crate::{Event, ExecuteAnswer, Executed, Staged, State};
 use frame::Frame;
@@ -23,7 +23,7 @@ fn panic_flags(panic: bool) -> Flags
 
 impl State {
     // The caller is the frame of the top row.
-    #[tactic(auto, unfolding(crate::specs::Parts::close_of, crate::specs::Ret::close_done, operations::specs::Ret::resumed_of))]
+    #[tactic(auto, unfolding(crate::specs::ByOperation::close_of, crate::specs::Ret::close_done, operations::specs::Ret::resumed_of))]
     fn close(self, settings: Settings, caller: Frame) -> Executed
         ensures { result ≡ close_of settings caller self }
     {

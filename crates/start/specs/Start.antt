@@ -1,6 +1,5 @@
--- States and records that are 0 but for what is given: the start of nearbook's listing and the edges. Document 01: "multiplier 1, time step 4"; "It starts at depth 1
--- in a far frame, an ergs-free frame below. All of the state, records and words that no line sets is 0 or no, but for the masked records' operations and a call's
--- register."
+-- Where nearbook's listing and the edges start. Document 01: "time step 4"; "It starts at depth 1 in a far frame, an ergs-free frame below. All of the
+-- state, records and words that no line sets is 0 or no, but for the masked records' operations and a call's register."
 use Rattle.std.specs.Prelude.{ℕ, ◌*◌, false, List, None, pos, replicate}
 use Rattle.u256.specs.declared.U256.{U256}
 use Rattle.u256.specs.U256.{empty_word}
@@ -12,6 +11,7 @@ use Rattle.records.specs.declared.Record.{Record}
 use Rattle.records.specs.declared.Records.{Records}
 use Rattle.addressing.specs.declared.Location.{Location}
 use Rattle.stages.specs.declared.State.{State}
+use Rattle.stages.specs.State.{at_fetch}
 use Rattle.stages.specs.Effects.{no_flags, no_record}
 
 abbrev pub no_address : Address
@@ -44,10 +44,10 @@ far_frame ergs sp = record {
 
 -- an instruction with these: operation, return kind, source kind, src0 and price
 abbrev pub instruction : ℕ → ℕ → ℕ → ℕ → ℕ → Record
-instruction operation kind source src0 price = record {
+instruction operation return_kind source_kind src0 price = record {
   operation = operation;
-  return_kind = kind;
-  source_kind = source;
+  return_kind = return_kind;
+  source_kind = source_kind;
   src0 = src0;
   price = price;
   -- the rest 0 or no
@@ -71,6 +71,7 @@ instruction operation kind source src0 price = record {
 abbrev pub records_of : Record → Records
 records_of plain = record { plain = plain; panic = instruction 4 2 0 0 0; nop = no_record }
 
+-- a state at depth 1 in a far frame: the number of the stage that comes next, the registers, the ergs and sp of the frame, and the kept record
 abbrev pub state_at : ℕ → List U256 → ℕ → ℕ → Record → State
 state_at stage registers ergs sp kept = record {
   registers = registers;
@@ -93,7 +94,7 @@ state_at stage registers ergs sp kept = record {
 
 -- ready, with no register set
 abbrev pub start_state : ℕ → ℕ → State
-start_state ergs sp = state_at 0 (replicate 15 empty_word) ergs sp no_record
+start_state ergs sp = state_at at_fetch (replicate 15 empty_word) ergs sp no_record
 
 abbrev pub settings_of : ℕ → ℕ → Settings
 settings_of limit multiplier = record { depth_limit = limit; near_call_multiplier = multiplier; time_step = 4 }

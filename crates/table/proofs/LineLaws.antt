@@ -19,7 +19,7 @@ use Rattle.text.proofs.NumberLaws.{number_some}
 use Rattle.table.specs.declared.Op.{Op}
 use Rattle.table.specs.declared.Line.{Line}
 use Rattle.table.specs.declared.Start.{Start}
-use Rattle.table.specs.Line.{name_of, op_of, run_line, line_fields, line_of, start_with, start_fields, start_of}
+use Rattle.table.specs.Line.{name_of, op_of, line_from, line_fields, line_of, start_with, start_fields, start_of}
 
 -- split gives the fields of a line
 pub split_fields : {F : Type 0} {s : _} {g : Mut F (Bor ℕ × Unit {0}) Bool} (line : List ℕ) → slice.split_rest s ≡ line → slice.split_done s ≡ false
@@ -62,7 +62,7 @@ no_price : (a b : List ℕ) (ps : List (List ℕ)) → number_of b ≡ None → 
 no_price a b [] h = refl
 no_price a b (c ∷ []) h = rw h (go (op_of a))
   where
-    go : (op : Option Op) → None ≡ run_line op None (number_of c)
+    go : (op : Option Op) → None ≡ line_from op None (number_of c)
     go None = refl
     go (Some op) = refl
 no_price a b (c ∷ d ∷ more) h = refl
@@ -70,7 +70,7 @@ no_price a b (c ∷ d ∷ more) h = refl
 no_want : (a b c : List ℕ) (ps : List (List ℕ)) → number_of c ≡ None → None ≡ line_fields (a ∷ b ∷ c ∷ ps)
 no_want a b c [] h = rw h (go (op_of a) (number_of b))
   where
-    go : (op : Option Op) (price : Option ℕ) → None ≡ run_line op price None
+    go : (op : Option Op) (price : Option ℕ) → None ≡ line_from op price None
     go None price = refl
     go (Some op) None = refl
     go (Some op) (Some price) = refl
@@ -199,7 +199,7 @@ unfolding line_of
 run_length line {l} = go (fields_of line) refl
   where
     fields : (a b c : List ℕ) → fields_of line ≡ a ∷ b ∷ c ∷ [] → (o : Option Op) (p w : Option ℕ) → op_of a ≡ o → number_of b ≡ p → number_of c ≡ w
-        → run_line o p w ≡ Some l → 6 ≤ length line
+        → line_from o p w ≡ Some l → 6 ≤ length line
     fields a b c e None p w f g h q = absurd (none-some l q)
     fields a b c e (Some o) None w f g h q = absurd (none-some l q)
     fields a b c e (Some o) (Some p) None f g h q = absurd (none-some l q)

@@ -1,6 +1,6 @@
 -- What a line of the listing says. Document 01: "a line of names, then values in that order. `op` is add, call, ok, revert or panic; want is what a call requests;
 -- ... limit 1 to 16"; a bad line has "a wrong name or op, a field missing or too many, fields not parted by one space, a value not plain decimal digits, above 32 bits,
--- or a limit outside its range".
+-- or a limit outside its range". The two lines of names are in listing/specs/Listing.antt.
 use Rattle.std.specs.Prelude.{ℕ, cond, ◌&&◌, List, [], ◌∷◌, Option, Some, None, leb}
 use Rattle.text.specs.Bytes.{bytes_of, same_bytes}
 use Rattle.text.specs.Parts.{fields_of}
@@ -26,17 +26,17 @@ op_of field =
     (cond (same_bytes field (name_of Op.Panic)) (Some Op.Panic) None))))
 
 -- a line `op price want`
-abbrev pub run_line : Option Op → Option ℕ → Option ℕ → Option Line
-run_line None price want = None
-run_line (Some op) None want = None
-run_line (Some op) (Some price) None = None
-run_line (Some op) (Some price) (Some want) = Some record { op = op; price = price; want = want }
+abbrev pub line_from : Option Op → Option ℕ → Option ℕ → Option Line
+line_from None price want = None
+line_from (Some op) None want = None
+line_from (Some op) (Some price) None = None
+line_from (Some op) (Some price) (Some want) = Some record { op = op; price = price; want = want }
 
 abbrev pub line_fields : List (List ℕ) → Option Line
 line_fields [] = None
 line_fields (a ∷ []) = None
 line_fields (a ∷ b ∷ []) = None
-line_fields (a ∷ b ∷ c ∷ []) = run_line (op_of a) (number_of b) (number_of c)
+line_fields (a ∷ b ∷ c ∷ []) = line_from (op_of a) (number_of b) (number_of c)
 line_fields (a ∷ b ∷ c ∷ d ∷ more) = None
 
 unfoldable pub line_of : List ℕ → Option Line

@@ -20,7 +20,7 @@ words_of n = record {
 abbrev pub one_word : ℕ → U256
 one_word n = record { w0 = n; w1 = 0; w2 = 0; w3 = 0 }
 
--- 0: what a register that was not written holds, and register 0 always
+-- 0, document 01's "empty value"
 abbrev pub empty_word : U256
 empty_word = one_word 0
 

@@ -1,4 +1,4 @@
-// 256-bit values: sum, difference, the test for zero, the lowest bits, and a 64-bit number as one.
+// 256-bit values: sum, difference, the test for zero, the lowest bits, a 64-bit number as one, the empty word, and the choice of one of two.
 #![tactic(auto)]
 
 ghost use Rattle.std.specs.Prelude.{◌≡◌, cond};

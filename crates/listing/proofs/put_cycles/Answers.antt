@@ -30,7 +30,7 @@ loop-line-preserved c =
       omega (arith, c.loop-line.invariant.0, fewer, steps.1.0, steps.1.1),
       rw (steps.1.1, steps.1.0, ran.ensures.0, ran.ensures.1, ran.ensures.2)
           (laws.going_on c.loop-line.invariant.1 steps.0 (sym c.line_of.ensures ∙ c.in-Some-line_of.is) (rw ran.ensures.0 at c.in_default-answer.is)
-          (rw (c.row_of-row.ensures, steps.1.0, ran.ensures.0, ran.ensures.1, ran.ensures.2) at c.put_row.ensures)),
+          (rw (c.printed_row-row.ensures, steps.1.0, ran.ensures.0, ran.ensures.1, ran.ensures.2) at c.put_row.ensures)),
     )
 
 pub returns : goal.returns
