@@ -2,6 +2,7 @@
 -- passes all." These low bits are taken in stages/specs/Execute.antt.
 use Rattle.std.specs.Prelude.{ℕ, ◌*◌, min, true, cond, ◌||◌, pos, ◌==◌, nat_lt}
 use Rattle.frame.specs.declared.Frame.{Frame}
+use Rattle.frame.specs.Fields.{frame_with}
 
 abbrev pub wanted_ergs : ℕ → ℕ → ℕ
 wanted_ergs want multiplier = min (want * multiplier) 4294967295
@@ -11,29 +12,7 @@ passed_ergs wanted held = cond (wanted == 0 || nat_lt held wanted) held wanted
 
 -- the caller, with what it keeps and where it goes on
 unfoldable pub caller_of : Frame → ℕ → ℕ → Frame
-caller_of f ergs pc = record {
-  ergs_remaining = ergs;
-  pc = pc;
-  -- the rest as it was
-  context_u128_value = f.context_u128_value;
-  this_address = f.this_address;
-  msg_sender = f.msg_sender;
-  code_address = f.code_address;
-  base_memory_page = f.base_memory_page;
-  code_page = f.code_page;
-  sp = f.sp;
-  exception_handler_location = f.exception_handler_location;
-  this_shard_id = f.this_shard_id;
-  caller_shard_id = f.caller_shard_id;
-  code_shard_id = f.code_shard_id;
-  is_static = f.is_static;
-  is_local_frame = f.is_local_frame;
-  heap_bound = f.heap_bound;
-  aux_heap_bound = f.aux_heap_bound;
-  total_pubdata_spent = f.total_pubdata_spent;
-  stipend = f.stipend;
-  opening_cycle = f.opening_cycle;
-}
+caller_of f ergs pc = frame_with f ergs f.sp pc
 
 -- the opened frame: a copy of its caller but for pc, handler, ergs, local, pubdata and the cycle of opening, which is the one given
 unfoldable pub opened_of : Frame → ℕ → ℕ → ℕ → ℕ → Frame
