@@ -17,7 +17,8 @@ use Rattle.frame.specs.Store.{saved_store, saved_ergs}
 use Rattle.signed.specs.Signed.{checked_of, word_of, signed_of}
 use Rattle.u256.specs.U256.{one_word, overflowing_sum, overflowing_difference, is_zero}
 use Rattle.decoding.specs.Code.{code_bits}
-use Rattle.records.specs.Record.{bad_records}
+use Rattle.records.specs.Record.{bad_records, instruction}
+use Rattle.records.specs.declared.OperandFields.{OperandFields}
 use Rattle.decoding.specs.Charge.{error_flags}
 use Rattle.addressing.specs.Address.{source_at, destination_at, places_of}
 use Rattle.addressing.specs.Sources.{sources_of}
@@ -40,13 +41,17 @@ use Rattle.lists.specs.Claims.{ClosesWithLast, CallerResumes, span}
 use Rattle.lists.proofs.Resume.{callers_resume}
 use Rattle.claims.specs.Core.{lasting_of, core, execute_outcome}
 use Rattle.claims.proofs.CoreLaws.{laws}
-use Rattle.start.specs.Start.{instruction, records_of, start_state, settings_of, empty_store}
+use Rattle.start.specs.Start.{records_of, start_state, settings_of, empty_store}
+
+-- a source on the code page
+abbrev from_code : OperandFields
+from_code = record { source_kind = 4; destination_kind = 0; src0 = 0; src1 = 0; dst0 = 0; imm_0 = 0; imm_1 = 0 }
 
 -- a line of the listing: operation, return kind, price, request. Operands are called with a limit of 0, which is refusal 1, and fetch out of its turn, which is 2.
 abbrev pub line : ℕ → ℕ → ℕ → ℕ → List (Call core)
 line operation kind price want =
     fetch (record { settings = settings_of 4 1; word = empty_word })
-    ∷ decode (record { settings = settings_of 4 1; records = records_of (instruction operation kind 4 0 price) })
+    ∷ decode (record { settings = settings_of 4 1; records = records_of (instruction operation kind from_code price false) })
     ∷ operands (settings_of 0 1)
     ∷ operands (settings_of 4 1)
     ∷ fetch (record { settings = settings_of 4 1; word = one_word 7 })
@@ -94,7 +99,7 @@ abbrev pub cycle_of : List (Call core) → ℕ → ℕ → ℕ → ℕ → Cycle
 cycle_of earlier operation kind price want = record {
   fetch = record { input = record { settings = settings_of 4 1; word = empty_word }; state = (at 0).state; store = (at 0).store };
   decode = record {
-    input = record { settings = settings_of 4 1; records = records_of (instruction operation kind 4 0 price) };
+    input = record { settings = settings_of 4 1; records = records_of (instruction operation kind from_code price false) };
     state = (at 1).state;
     store = (at 1).store;
   };

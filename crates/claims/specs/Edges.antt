@@ -8,7 +8,8 @@ use Rattle.frame.specs.Row.{frame_of}
 use Rattle.frame.specs.Store.{row_at}
 use Rattle.registers.specs.Registers.{register_of}
 use Rattle.records.specs.declared.Flags.{Flags}
-use Rattle.records.specs.declared.Record.{Record}
+use Rattle.records.specs.declared.OperandFields.{OperandFields}
+use Rattle.records.specs.Record.{instruction, from_register}
 use Rattle.decoding.specs.Charge.{any_error}
 use Rattle.stages.specs.declared.State.{State}
 use Rattle.stages.specs.declared.Staged.{Staged}
@@ -24,7 +25,7 @@ use Rattle.stages.specs.Decode.{decode_of}
 use Rattle.stages.specs.Operands.{operands_of}
 use Rattle.stages.specs.Execute.{execute_of, execute_store}
 use Rattle.stages.specs.Answers.{location_case, fetch_case}
-use Rattle.start.specs.Start.{instruction, records_of, state_at, settings_of, empty_store}
+use Rattle.start.specs.Start.{records_of, state_at, settings_of, empty_store}
 
 pub record Edge : Type 0 where
   pub computed : List ℕ
@@ -47,7 +48,7 @@ decodes ergs price = figures after.state after.answer
   where
     after : Staged DecodeAnswer
     after =
-        decode_of (settings_of 4 1) (records_of (instruction 1 0 0 0 price)) (state_at at_decode (replicate 15 empty_word) ergs 0 no_record)
+        decode_of (settings_of 4 1) (records_of (instruction 1 0 (from_register 0) price false)) (state_at at_decode (replicate 15 empty_word) ergs 0 no_record)
         (empty_store 4)
 
 -- a near call that requests so much, at this multiplier and so many ergs: the depth afterwards, what is given, and what is kept in the caller's row
@@ -69,7 +70,7 @@ calls multiplier held want =
     division after.state after.answer (row_at (execute_store 16 (settings_of 4 multiplier) no_input s (empty_store 4)) 1)
   where
     s : State
-    s = state_at at_execute (one_word want ∷ replicate 14 empty_word) held 0 (instruction 3 0 0 1 0)
+    s = state_at at_execute (one_word want ∷ replicate 14 empty_word) held 0 (instruction 3 0 (from_register 1) 0 false)
 
     after : Staged ExecuteAnswer
     after = execute_of 16 (settings_of 4 multiplier) no_input s (empty_store 4)
@@ -80,65 +81,23 @@ abbrev places : State → Result OperandsAnswer Refusal → List ℕ
 places s (Ok answer) = location_case answer.source ++ (location_case answer.destination ++ (s.current.sp ∷ []))
 places s (Err refusal) = paper_number refusal ∷ []
 
--- an add of these kinds and immediates
-abbrev placed : ℕ → ℕ → ℕ → ℕ → Record
-placed source destination imm0 imm1 = record {
-  operation = 1;
-  source_kind = source;
-  destination_kind = destination;
-  imm_0 = imm0;
-  imm_1 = imm1;
-  -- the rest 0 or no
-  return_kind = 0;
-  condition = 0;
-  src0 = 0;
-  src1 = 0;
-  dst0 = 0;
-  price = 0;
-  explicit_panic = false;
-  kernel_only = false;
-  allowed_when_static = false;
-  swap = false;
-  set_flags = false;
-  to_label = false;
-  src0_may_be_pointer = false;
-  src1_may_be_pointer = false;
-}
+-- operands of these kinds and immediates
+abbrev placed : ℕ → ℕ → ℕ → ℕ → OperandFields
+placed source destination imm0 imm1 = record { source_kind = source; destination_kind = destination; src0 = 0; src1 = 0; dst0 = 0; imm_0 = imm0; imm_1 = imm1 }
 
 abbrev pub addresses : ℕ → ℕ → ℕ → ℕ → ℕ → List ℕ
 addresses source destination imm0 imm1 sp = places after.state after.answer
   where
     after : Staged OperandsAnswer
-    after = operands_of 16 (settings_of 4 1) (state_at at_operands (replicate 15 empty_word) 0 sp (placed source destination imm0 imm1)) (empty_store 4)
+    after = operands_of 16 (settings_of 4 1) (state_at at_operands (replicate 15 empty_word) 0 sp (instruction 1 0 (placed source destination imm0 imm1) 0 false)) (empty_store 4)
 
 -- an operation (1 add, 2 sub) of registers 1 and 2 into register 3, with set flags: the result, then overflow, equal, greater
 abbrev bits : Flags → List ℕ
 bits f = bool_byte f.overflow_or_less_than_flag ∷ bool_byte f.equality_flag ∷ bool_byte f.greater_than_flag ∷ []
 
--- the record of such an operation
-abbrev combining : ℕ → Record
-combining operation = record {
-  operation = operation;
-  src0 = 1;
-  src1 = 2;
-  dst0 = 3;
-  set_flags = true;
-  -- the rest 0 or no
-  return_kind = 0;
-  condition = 0;
-  source_kind = 0;
-  destination_kind = 0;
-  imm_0 = 0;
-  imm_1 = 0;
-  price = 0;
-  explicit_panic = false;
-  kernel_only = false;
-  allowed_when_static = false;
-  swap = false;
-  to_label = false;
-  src0_may_be_pointer = false;
-  src1_may_be_pointer = false;
-}
+-- these three registers
+abbrev combined : OperandFields
+combined = record { source_kind = 0; destination_kind = 0; src0 = 1; src1 = 2; dst0 = 3; imm_0 = 0; imm_1 = 0 }
 
 abbrev pub combines : ℕ → ℕ → ℕ → List ℕ
 combines operation a b = value_of (register_of after.registers 3) ∷ bits after.flags
@@ -146,7 +105,7 @@ combines operation a b = value_of (register_of after.registers 3) ∷ bits after
     after : State
     after =
         (execute_of 16 (settings_of 4 1) no_input
-        (state_at at_execute (words_of a ∷ words_of b ∷ replicate 13 empty_word) 0 0 (combining operation)) (empty_store 4)).state
+        (state_at at_execute (words_of a ∷ words_of b ∷ replicate 13 empty_word) 0 0 (instruction operation 0 combined 0 true)) (empty_store 4)).state
 
 -- a nop at this pc: the code word that the query asks for, as a location; what fetch answers, 0 for code and the part of the word (each part holds its number, the
 -- highest 64 bits 0); and pc afterwards

@@ -1,6 +1,7 @@
 // The edges of document 01 that are not marked P, in its order: returns of frames with pubdata. Those marked P are proved (`edges_hold` in claims).
 use cycle::Input;
 use frame::{Frame, PubdataCost, ROW_WIDTH};
+use records::OperandFields;
 use records::kinds::{Operation, ReturnKind};
 use refusal::Refusal;
 use stages::{ExecuteInput, State};
@@ -38,7 +39,13 @@ impl Case {
             ..Frame::default()
         };
         frame::save_frame(&mut store, 0, below)?;
-        let plain = start::instruction(Operation::Ret as u8, self.kind as u8, 0, 0, 0);
+        let plain = records::instruction(
+            Operation::Ret as u8,
+            self.kind as u8,
+            OperandFields::default(),
+            0,
+            false,
+        );
         let input = Input {
             code: u256::empty_word(),
             execute: ExecuteInput {

@@ -5,10 +5,11 @@ use Rattle.std.specs.Result.{is_ok}
 use Rattle.u256.specs.U256.{empty_word, one_word}
 use Rattle.frame.specs.Store.{saved_ergs}
 use Rattle.records.specs.declared.Record.{Record}
+use Rattle.records.specs.Record.{instruction, from_register}
 use Rattle.stages.specs.declared.State.{State}
 use Rattle.cycle.specs.declared.Input.{Input}
 use Rattle.cycle.specs.declared.Cycled.{Cycled}
-use Rattle.start.specs.Start.{instruction, records_of, settings_of, start_state, empty_store}
+use Rattle.start.specs.Start.{records_of, settings_of, start_state, empty_store}
 use Rattle.cycle.specs.declared.CycleAnswer.{CycleAnswer}
 use Rattle.cycle.specs.declared.CycleRefusal.{CycleRefusal}
 use Rattle.cycle.specs.Cycle.{cycle_of, cycle_store, cycle_charge}
@@ -28,14 +29,13 @@ pub record Holding : Type 0 where
 abbrev pub start_holding : ℕ → Holding
 start_holding ergs = record { state = start_state ergs 0; store = empty_store 16; tally = replicate 17 0 }
 
--- the instruction of each op: operation (1 add, 3 near call, 4 return), return kind (0 ok, 1 revert, 2 panic), a source in a register, src0 (a call's is register 1)
--- and price
+-- the instruction of each op: operation (1 add, 3 near call, 4 return), return kind (0 ok, 1 revert, 2 panic), src0 (a call's is register 1) and price
 abbrev pub op_record : Op → ℕ → Record
-op_record Op.Add price = instruction 1 0 0 0 price
-op_record Op.Call price = instruction 3 0 0 1 price
-op_record Op.Ok price = instruction 4 0 0 0 price
-op_record Op.Revert price = instruction 4 1 0 0 price
-op_record Op.Panic price = instruction 4 2 0 0 price
+op_record Op.Add price = instruction 1 0 (from_register 0) price false
+op_record Op.Call price = instruction 3 0 (from_register 1) price false
+op_record Op.Ok price = instruction 4 0 (from_register 0) price false
+op_record Op.Revert price = instruction 4 1 (from_register 0) price false
+op_record Op.Panic price = instruction 4 2 (from_register 0) price false
 
 unfoldable pub input_of : ℕ → Op → ℕ → Input
 input_of limit op price = record {

@@ -1,8 +1,9 @@
 -- Instruction records. Document 01: "Operation (0 nop, 1 add, 2 sub, 3 near call, 4 return, 5 other); return kind (0 ok, 1 revert, 2 panic); condition 0 to 7
 -- in the order of the Rust's `match`; source and destination kind (0 register, 1 immediate, 2 push/pop, 3 stack offset, 4 code page, 5 absolute stack); registers src0, src1, dst0".
-use Rattle.std.specs.Prelude.{Bool, not, ◌&&◌, ◌||◌, ◌==◌, nat_le}
+use Rattle.std.specs.Prelude.{ℕ, Bool, false, not, ◌&&◌, ◌||◌, ◌==◌, nat_le}
 use Rattle.records.specs.declared.Record.{Record}
 use Rattle.records.specs.declared.Records.{Records}
+use Rattle.records.specs.declared.OperandFields.{OperandFields}
 
 -- ---- not refused by 3: "a field outside its list, register above 15, destination kind 1 or 4"
 -- the kinds of source and destination
@@ -57,3 +58,32 @@ bad_records r ended pending flagged =
     || not (is_nop r.nop)
     || ended && not (is_nop r.plain && not flagged)
     || pending && not (is_panic r.plain)
+
+-- ---- a record made of few fields: operation, return kind, what its operands are, price and set flags
+abbrev pub instruction : ℕ → ℕ → OperandFields → ℕ → Bool → Record
+instruction operation return_kind operands price set_flags = record {
+  operation = operation;
+  return_kind = return_kind;
+  source_kind = operands.source_kind;
+  destination_kind = operands.destination_kind;
+  src0 = operands.src0;
+  src1 = operands.src1;
+  dst0 = operands.dst0;
+  imm_0 = operands.imm_0;
+  imm_1 = operands.imm_1;
+  price = price;
+  set_flags = set_flags;
+  -- the rest 0 or no
+  condition = 0;
+  explicit_panic = false;
+  kernel_only = false;
+  allowed_when_static = false;
+  swap = false;
+  to_label = false;
+  src0_may_be_pointer = false;
+  src1_may_be_pointer = false;
+}
+
+-- src0 is register n, and all else of the operands 0
+abbrev pub from_register : ℕ → OperandFields
+from_register n = record { src0 = n; source_kind = 0; destination_kind = 0; src1 = 0; dst0 = 0; imm_0 = 0; imm_1 = 0 }

@@ -7,6 +7,7 @@ use Rattle.frame.specs.declared.PubdataCost.{PubdataCost}
 use Rattle.frame.specs.Fields.{with_pc}
 use Rattle.registers.specs.Registers.{update_of}
 use Rattle.records.specs.declared.Record.{Record}
+use Rattle.records.specs.Record.{instruction, from_register}
 use Rattle.records.specs.declared.Flags.{Flags}
 use Rattle.addressing.specs.declared.Location.{Location}
 use Rattle.stages.specs.declared.State.{State}
@@ -14,27 +15,7 @@ use Rattle.stages.specs.State.{at_fetch}
 
 -- "the record all 0"
 abbrev pub no_record : Record
-no_record = record {
-  operation = 0;
-  return_kind = 0;
-  condition = 0;
-  source_kind = 0;
-  destination_kind = 0;
-  src0 = 0;
-  src1 = 0;
-  dst0 = 0;
-  imm_0 = 0;
-  imm_1 = 0;
-  price = 0;
-  explicit_panic = false;
-  kernel_only = false;
-  allowed_when_static = false;
-  swap = false;
-  set_flags = false;
-  to_label = false;
-  src0_may_be_pointer = false;
-  src1_may_be_pointer = false;
-}
+no_record = instruction 0 0 (from_register 0) 0 false
 
 abbrev pub no_flags : Flags
 no_flags = record { overflow_or_less_than_flag = false; equality_flag = false; greater_than_flag = false }

@@ -9,6 +9,7 @@ use Rattle.frame.specs.Row.{row_width}
 use Rattle.records.specs.declared.Settings.{Settings}
 use Rattle.records.specs.declared.Record.{Record}
 use Rattle.records.specs.declared.Records.{Records}
+use Rattle.records.specs.Record.{instruction, from_register}
 use Rattle.addressing.specs.declared.Location.{Location}
 use Rattle.stages.specs.declared.State.{State}
 use Rattle.stages.specs.State.{at_fetch}
@@ -42,34 +43,9 @@ far_frame ergs sp = record {
   opening_cycle = 0;
 }
 
--- an instruction with these: operation, return kind, source kind, src0 and price
-abbrev pub instruction : ℕ → ℕ → ℕ → ℕ → ℕ → Record
-instruction operation return_kind source_kind src0 price = record {
-  operation = operation;
-  return_kind = return_kind;
-  source_kind = source_kind;
-  src0 = src0;
-  price = price;
-  -- the rest 0 or no
-  condition = 0;
-  destination_kind = 0;
-  src1 = 0;
-  dst0 = 0;
-  imm_0 = 0;
-  imm_1 = 0;
-  explicit_panic = false;
-  kernel_only = false;
-  allowed_when_static = false;
-  swap = false;
-  set_flags = false;
-  to_label = false;
-  src0_may_be_pointer = false;
-  src1_may_be_pointer = false;
-}
-
 -- the masked records: a panic return and a nop
 abbrev pub records_of : Record → Records
-records_of plain = record { plain = plain; panic = instruction 4 2 0 0 0; nop = no_record }
+records_of plain = record { plain = plain; panic = instruction 4 2 (from_register 0) 0 false; nop = no_record }
 
 -- a state at depth 1 in a far frame: the number of the stage that comes next, the registers, the ergs and sp of the frame, and the kept record
 abbrev pub state_at : ℕ → List U256 → ℕ → ℕ → Record → State

@@ -7,7 +7,7 @@ ghost use Rattle.start.specs.Start as start;
 use addressing::Location;
 use frame::{Frame, PubdataCost};
 use records::kinds::{Operation, ReturnKind};
-use records::{Flags, Record, Records, Settings};
+use records::{Flags, OperandFields, Record, Records, Settings};
 use stages::{Kept, Stage, State};
 
 pub fn far_frame(ergs: u32, sp: u16) -> Frame
@@ -20,25 +20,17 @@ pub fn far_frame(ergs: u32, sp: u16) -> Frame
     }
 }
 
-// A record with these fields; the others are 0 or no. The kinds are numbers as in the record, so that one that is refused can be made too.
-pub fn instruction(operation: u8, return_kind: u8, source_kind: u8, src0: u8, price: u32) -> Record
-    ensures { result ≡ start.instruction operation return_kind source_kind src0 price }
-{
-    Record {
-        operation,
-        return_kind,
-        source_kind,
-        src0,
-        price,
-        ..Record::default()
-    }
-}
-
 // The plain record with the two that it may be masked into.
 pub fn records_of(plain: Record) -> Records
     ensures { result ≡ start.records_of plain }
 {
-    let panic = instruction(Operation::Ret as u8, ReturnKind::Panic as u8, 0, 0, 0);
+    let panic = records::instruction(
+        Operation::Ret as u8,
+        ReturnKind::Panic as u8,
+        OperandFields::default(),
+        0,
+        false,
+    );
     Records {
         plain,
         panic,
