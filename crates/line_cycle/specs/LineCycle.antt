@@ -98,10 +98,14 @@ holding_after limit line b = record {
   tally = entries_after limit line b;
 }
 
+-- "ergs of all frames"
+abbrev pub total_held : Holding → ℕ
+total_held b = b.state.current.ergs_remaining + saved_ergs b.state.depth b.store
+
 -- "cycle number, op read, charge, depth after, ergs of the current frame, ergs of all frames, its tally"
 unfoldable pub printed_row : ℕ → Op → ℕ → Holding → Row
 printed_row cycle op charge b = record {
-  total = b.state.current.ergs_remaining + saved_ergs b.state.depth b.store;
+  total = total_held b;
   own = get_or b.tally b.state.depth 0;
   cycle = cycle;
   charge = charge;
