@@ -102,11 +102,15 @@ holding_after limit line b = record {
 abbrev pub total_held : Holding → ℕ
 total_held b = b.state.current.ergs_remaining + saved_ergs b.state.depth b.store
 
+-- "its tally": what the place of a depth holds
+abbrev pub spend_at : ℕ → Holding → ℕ
+spend_at depth b = get_or b.tally depth 0
+
 -- "cycle number, op read, charge, depth after, ergs of the current frame, ergs of all frames, its tally"
 unfoldable pub printed_row : ℕ → Op → ℕ → Holding → Row
 printed_row cycle op charge b = record {
   total = total_held b;
-  own = get_or b.tally b.state.depth 0;
+  own = spend_at b.state.depth b;
   cycle = cycle;
   charge = charge;
   depth = b.state.depth;

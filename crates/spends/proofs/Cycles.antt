@@ -1,7 +1,7 @@
 -- A finished cycle of crate `cycle` is a cycle of calls, of which the laws of lists say what it does. Assumes nothing.
-use Rattle.std.proofs.Common.{◌≡◌, ℕ, Bool, true, false, cond, eqb, List, [], refl, sym, ap, ◌∙◌, arith, Ok, Err, Result}
+use Rattle.std.proofs.Common.{◌≡◌, ℕ, true, false, List, [], refl, sym, ap, ◌∙◌, arith, Ok, Err, Result}
 use Rattle.std.specs.Result.{is_ok}
-use borrow.Author.Tests.{eq-eqb, eqb-true}
+use borrow.Author.Tests.{eq-eqb}
 use Rattle.refusal.specs.declared.Refusal.{Refusal}
 use Rattle.stages.specs.declared.State.{State}
 use Rattle.stages.specs.declared.FetchAnswer.{FetchAnswer}
@@ -22,6 +22,8 @@ use Rattle.lists.specs.Lists.{Cycle, calls_made, charge}
 use Rattle.lists.proofs.Cycles.{Does, does}
 use Rattle.claims.specs.Core.{core, execute_outcome}
 use Rattle.claims.proofs.CoreLaws.{laws}
+use Rattle.claims.proofs.Views.{by_number}
+use Rattle.cycle.proofs.CycleLaws.{Gives, done}
 
 -- what went on after an answer that was finished
 record Went {A : Type 0} (a : Result A Refusal) (next : A → Cycled) : Type 0 where
@@ -36,11 +38,7 @@ went (Err r) next refused f e = absurd (grind (arith, f r))
 
 -- a finished answer is none of a refusal
 pub not_refused : {A : Type 0} (n : ℕ) (s : State) (done : Staged A) (answer : A) → (settled n (refused_with s) done).answer ≡ Ok answer → n ≡ 0
-not_refused n s done answer e = go (eqb n 0) refl e
-  where
-    go : (b : Bool) → eqb n 0 ≡ b → (cond b done (refused_with s n)).answer ≡ Ok answer → n ≡ 0
-    go true t e = eqb-true n 0 t
-    go false t e = absurd (cc)
+not_refused n s done answer e = by_number (λ r. r.answer ≡ Ok answer → n ≡ 0) n (refused_with s) done (λ z e. z) (λ z e. absurd (cc)) e
 
 module _ (input : Input) (s : State) (store : List ℕ) where
   -- the calls of a cycle
@@ -82,16 +80,25 @@ module _ (input : Input) (s : State) (store : List ℕ) where
       }
 
   module _ (f : Finished) where
-    pub cycle_is : cycle_of input s store ≡ record {
+    abbrev cycled : Cycled
+    cycled = record {
       state = (execute_in input s store).state;
       answer = Ok (record { read = query_of s; fetch = f.fetch; decode = f.decode; operands = f.operands; execute = f.execute });
     }
-    unfolding cycle_of
-    cycle_is = rw (f.fetched, f.decoded, f.addressed, f.executed) refl
 
-    pub store_is : cycle_store input s store ≡ execute_store 16 input.settings input.execute (operands_in input s store).state store
-    unfolding cycle_store
-    store_is = rw (f.fetched, f.decoded, f.addressed) refl
+    abbrev stored : List ℕ
+    stored = execute_store 16 input.settings input.execute (operands_in input s store).state store
+
+    gives : Gives input s store cycled stored
+    gives =
+        done input s store (fetch_in input s store) refl f.fetch f.fetched (decode_in input s store) refl f.decode f.decoded (operands_in input s store) refl f.operands
+        f.addressed (execute_in input s store) stored (refl, refl) f.execute f.executed (query_of s) refl
+
+    pub cycle_is : cycle_of input s store ≡ cycled
+    cycle_is = sym gives.0
+
+    pub store_is : cycle_store input s store ≡ stored
+    store_is = sym gives.1
 
     pub cycle_does : Does core cycle_from
     unfolding calls_made

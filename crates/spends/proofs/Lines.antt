@@ -1,8 +1,10 @@
 -- What was spent and what is held, over lists of lines. Assumes nothing.
-use Rattle.std.proofs.Common.{◌≡◌, ℕ, ◌+◌, ◌<◌, ◌≤◌, inl, inr, Bool, true, false, cond, ◌&&◌, eqb, Result, List, [], ◌∷◌, get_or, refl, ap, ◌∙◌, arith, Ok, Err}
+use Rattle.std.proofs.Common.{◌≡◌, ℕ, ◌+◌, ◌<◌, ◌≤◌, inl, inr, Bool, true, ◌&&◌, eqb, Result, List, [], ◌∷◌, get_or, refl, ap, ◌∙◌, arith, Ok, Err}
 use Rattle.std.proofs.lemmas.Grind.{common_steps}
+use Rattle.std.proofs.lemmas.Bool.{cond_both}
 use Rattle.std.specs.Result.{is_ok}
 use borrow.Author.Tests.{eq-eqb, eqb-true}
+use Rattle.refusal.specs.declared.Refusal.{Refusal}
 use Rattle.refusal.specs.Refusal.{numbered_refusal}
 use Rattle.tally.specs.Tally.{entered, enter_refusal, enter_answer, enter_of, tally_after}
 use Rattle.cycle.specs.declared.Cycled.{Cycled}
@@ -10,8 +12,8 @@ use Rattle.cycle.specs.declared.CycleAnswer.{CycleAnswer}
 use Rattle.cycle.specs.declared.CycleRefusal.{CycleRefusal}
 use Rattle.cycle.specs.Cycle.{cycle_charge}
 use Rattle.table.specs.declared.Line.{Line}
-use Rattle.line_cycle.specs.LineCycle.{Holding, start_holding, input_of, requested_state, cycle_in, entry_of, line_answer, store_after, entries_after, holding_after, total_held}
-use Rattle.spends.specs.Lines.{from_start, spend_at, none_refused, holding_after_lines, places_to, ErgsAccounted, LeavesDepth1, SpendIsErgsLess}
+use Rattle.line_cycle.specs.LineCycle.{Holding, start_holding, input_of, requested_state, cycle_in, entry_of, line_answer, store_after, entries_after, holding_after, total_held, spend_at}
+use Rattle.spends.specs.Lines.{from_start, none_refused, holding_after_lines, places_to, ErgsAccounted, LeavesDepth1, SpendIsErgsLess}
 use Rattle.spends.proofs.Cycles.{all_finished}
 use Rattle.spends.proofs.Totals.{total_after}
 use Rattle.tally.proofs.TallyLaws.{in_tally}
@@ -32,11 +34,8 @@ place_0_stays t b a c hb ha z = grind (arith, common_steps)
 -- ---- a line
 -- an entry that is made has no refusal
 made : (n : ℕ) → is_ok (enter_answer n) ≡ true → n ≡ 0
-made n e = go (eqb n 0) refl e
-  where
-    go : (b : Bool) → eqb n 0 ≡ b → is_ok (cond b (Ok (tt {0})) (Err (numbered_refusal n))) ≡ true → n ≡ 0
-    go true t e = eqb-true n 0 t
-    go false t e = absurd (cc)
+made n e =
+    cond_both (eqb n 0) (Ok tt) (Err (numbered_refusal n)) (λ (r : Result (Unit {0}) Refusal). is_ok r ≡ true → n ≡ 0) (λ t e. eqb-true n 0 t) (λ t e. absurd (cc)) e
 
 both_true : (a b : Bool) → (a && b) ≡ true → (a ≡ true) × (b ≡ true)
 both_true a b e = grind arith
@@ -78,7 +77,7 @@ lines_accounted : (limit ergs : ℕ) (lines : List Line) (b : Holding) → none_
 unfolding none_refused holding_after_lines
 lines_accounted limit ergs [] b e a = a
 lines_accounted limit ergs (line ∷ lines) b e a =
-    let t = both_true _ _ e in
+    let t = both_true (is_ok (line_answer limit line b).answer) (none_refused limit (holding_after limit line b) lines) e in
     lines_accounted limit ergs lines (holding_after limit line b) t.1 (line_accounted limit ergs line b t.0 a)
 
 pub start_accounted : (ergs : ℕ) → Accounted ergs (start_holding ergs)

@@ -11,11 +11,11 @@ use Rattle.table.specs.declared.Line.{Line}
 use Rattle.table.specs.declared.Row.{Row}
 use Rattle.table.specs.declared.Start.{Start}
 use Rattle.table.specs.Line.{line_of, start_of}
-use Rattle.table.specs.Row.{row_text, bad_line, names_line}
+use Rattle.table.specs.Row.{row_text, bad_line}
 use Rattle.line_cycle.specs.LineCycle.{Holding, start_holding, line_answer, entries_after, holding_after, printed_row}
 use Rattle.listing.specs.Listing.{going_on, line_text, named, lines_text, from_columns_line, from_values_line, from_names_line, listing_of}
 use Rattle.spends.specs.Lines.{places_to}
-use Rattle.spends.specs.Rows.{Ending, all_run, ends_bad, ends_refused, rows_text, depth_after, charges_since, all_charges, RowAddsUp, AllAddUp, Printed, RowsAddUp}
+use Rattle.spends.specs.Rows.{Ending, all_run, ends_bad, ends_refused, rows_text, depth_after, charges_since, all_charges, RowAddsUp, Listed, RowsAddUp}
 use Rattle.tally.proofs.TallyLaws.{in_tally}
 use Rattle.spends.proofs.Places.{entry_adds, entry_keeps, opened_at_0}
 use native.Mathlib.Decide.{dec_lt}
@@ -92,13 +92,6 @@ module _ (limit ergs n : ℕ) (line : Line) (earlier : List Row) (b : Holding) (
   }
 
 -- ---- lines
-record Listed (ergs : ℕ) (earlier : List Row) (text : List ℕ) : Type 0 where
-  pub rows : List Row
-  pub end_text : List ℕ
-  pub parts : text ≡ rows_text rows ++ end_text
-  pub ends : Ending end_text
-  pub add_up : AllAddUp ergs earlier rows
-
 -- a listing that ends here
 ended : (ergs : ℕ) (earlier : List Row) (text : List ℕ) → Ending text → Listed ergs earlier text
 ended ergs earlier text e = record { rows = []; end_text = text; parts = refl; ends = e; add_up = tt }
@@ -160,9 +153,9 @@ from_names lines start e =
 
 pub rows_add_up : RowsAddUp
 unfolding listing_of
-rows_add_up input start e = printed (from_names (lines_of input) start e) (ltb 65536 (length input))
+rows_add_up input start e = (_, refl, not_too_long (ltb 65536 (length input)) (from_names (lines_of input) start e))
   where
-    printed : Listed start.ergs [] (from_names_line (lines_of input)) → (long : Bool)
-        → Printed start.ergs (names_line ++ cond long (bad_line 0) (from_names_line (lines_of input)))
-    printed l true = record { rows = []; end_text = bad_line 0; parts = refl; ends = ends_bad 0 refl; add_up = tt }
-    printed l false = record { rows = l.rows; end_text = l.end_text; parts = ap (λ (t : List ℕ). names_line ++ t) l.parts; ends = l.ends; add_up = l.add_up }
+    not_too_long : (long : Bool) → Listed start.ergs [] (from_names_line (lines_of input))
+        → Listed start.ergs [] (cond long (bad_line 0) (from_names_line (lines_of input)))
+    not_too_long true l = ended start.ergs [] (bad_line 0) (ends_bad 0 refl)
+    not_too_long false l = l

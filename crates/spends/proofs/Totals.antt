@@ -1,5 +1,5 @@
 -- What all frames hold, and how much less a cycle leaves. Assumes nothing.
-use Rattle.std.proofs.Common.{◌≡◌, ℕ, zero, suc, ◌+◌, ◌≤◌, Bool, true, false, cond, not, ◌&&◌, List, refl, ap, ◌∙◌, arith}
+use Rattle.std.proofs.Common.{◌≡◌, ℕ, zero, suc, ◌+◌, ◌≤◌, Bool, true, false, cond, not, ◌&&◌, List, [], refl, ap, ◌∙◌, arith}
 use Rattle.refusal.proofs.RefusalLaws.{clear}
 use Rattle.frame.specs.Row.{frame_of}
 use Rattle.frame.specs.Store.{row_at, saved_ergs}
@@ -15,6 +15,7 @@ use Rattle.lists.specs.Laws.{Performs}
 use Rattle.lists.proofs.Rows.{fewer_same, row_same}
 use Rattle.claims.specs.Core.{core, CoreExecuteArgs, lasting_of}
 use Rattle.cycle.specs.Cycle.{cycle_of, cycle_store, cycle_charge}
+use Rattle.line_cycle.specs.LineCycle.{total_held}
 use Rattle.spends.proofs.Cycles.{not_refused, reach, out, performs, cycle_is, store_is, charge_is, cycle_from, Finished, cycle_does}
 
 pub same_row : (store other : List ℕ) (n i : ℕ) → first_rows core n store ≡ first_rows core n other → suc i ≤ n → row_at store i ≡ row_at other i
@@ -29,7 +30,7 @@ same_saved (suc i) store other e =
     cc
 
 abbrev pub total : State → List ℕ → ℕ
-total s store = s.current.ergs_remaining + saved_ergs s.depth store
+total s store = total_held (record { state = s; store = store; tally = [] })
 
 -- execute leaves what all frames hold, where a frame that it closes is local
 step_total : (q : FrameOperation) (x : CoreExecuteArgs) (s : State) (store : List ℕ) (o : Outcome State)

@@ -3,7 +3,7 @@
 use Rattle.std.specs.Prelude.{ℕ, zero, suc, ◌+◌, Bool, true, ◌&&◌, ◌≡◌, ◌⊎◌, List, [], ◌∷◌, get_or}
 use Rattle.std.specs.Result.{is_ok}
 use Rattle.table.specs.declared.Line.{Line}
-use Rattle.line_cycle.specs.LineCycle.{Holding, start_holding, line_answer, holding_after, total_held}
+use Rattle.line_cycle.specs.LineCycle.{Holding, start_holding, line_answer, holding_after, total_held, spend_at}
 
 -- ---- lines one after the other, from a holding on
 -- "up to the first refusal": none of them is refused
@@ -20,10 +20,6 @@ abbrev pub from_start : ℕ → ℕ → List Line → Holding
 from_start ergs limit lines = holding_after_lines limit (start_holding ergs) lines
 
 -- ---- what was spent
--- what the place of a depth holds
-abbrev pub spend_at : ℕ → Holding → ℕ
-spend_at depth b = get_or b.tally depth 0
-
 -- what the places from 0 to a depth hold together
 unfoldable pub places_to : ℕ → List ℕ → ℕ
 places_to zero tally = get_or tally 0 0

@@ -48,14 +48,18 @@ AllAddUp ergs earlier [] = Unit {0}
 AllAddUp ergs earlier (row ∷ rows) = RowAddsUp ergs earlier row × AllAddUp ergs (row ∷ earlier) rows
 
 -- ---- of every listing
--- The rows of a text, and what follows them. Numbers below 10^19 are told apart by their digits, so that these are the rows that stand there.
-pub record Printed (ergs : ℕ) (text : List ℕ) : Type 0 where
+-- A text that goes on after some rows, the latest of them first: its own rows, and what follows the last one. Numbers below 10^19 are told apart by their digits, so that
+-- these are the rows that stand there.
+pub record Listed (ergs : ℕ) (earlier : List Row) (text : List ℕ) : Type 0 where
   pub rows : List Row
   pub end_text : List ℕ
-  pub parts : text ≡ names_line ++ (rows_text rows ++ end_text)
+  pub parts : text ≡ rows_text rows ++ end_text
   pub ends : Ending end_text
-  pub add_up : AllAddUp ergs [] rows
+  pub add_up : AllAddUp ergs earlier rows
 
--- of every input whose second line gives the starting ergs
+-- of every input whose second line gives the starting ergs, what is printed after the line of names
 abbrev pub RowsAddUp : Type 0
-RowsAddUp = (input : List ℕ) (start : Start) → start_of (get_or (lines_of input) 1 []) ≡ Some start → Printed start.ergs (listing_of input)
+RowsAddUp =
+    (input : List ℕ) (start : Start)
+    → start_of (get_or (lines_of input) 1 []) ≡ Some start
+    → (text : List ℕ) × (listing_of input ≡ names_line ++ text) × Listed start.ergs [] text

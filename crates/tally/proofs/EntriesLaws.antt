@@ -1,5 +1,5 @@
 -- What the places hold after a list of entries. Assumes nothing.
-use Rattle.std.proofs.Common.{◌≡◌, ℕ, suc, ◌+◌, ◌<◌, ◌≤◌, Bool, true, false, cond, ◌&&◌, ◌||◌, List, [], ◌∷◌, ltb, eqb, get_or, refl, sym, ◌∙◌, arith, replicate}
+use Rattle.std.proofs.Common.{◌≡◌, ℕ, suc, ◌+◌, ◌<◌, ◌≤◌, Bool, true, false, cond, ◌&&◌, ◌||◌, List, [], ◌∷◌, ltb, eqb, get_or, refl, sym, subst, ◌∙◌, arith, replicate}
 use Rattle.std.proofs.lemmas.List.{get_or-replicate, get_or_past, length-replicate}
 use borrow.Author.Tests.{eqb-true}
 use Rattle.tally.specs.Tally.{enter_refusal, entered, tally_after}
@@ -86,7 +86,7 @@ module _ (tally : List ℕ) (e : Entry) (es : List Entry) (n : Near (e ∷ es)) 
       go false = refl
 
   same : (depth : ℕ) → e.before ≡ depth → since depth es ≡ spend_of tally depth es
-  same depth b = s.current depth (rw b at c.0)
+  same depth b = s.current depth (subst (λ (n : ℕ). EndsAt n es) b c.0)
 
   above : (depth : ℕ) → depth < e.before → since depth es ≡ spend_of tally depth es + since (suc depth) es
   above depth l = s.below depth e.before l c.0
