@@ -1,8 +1,8 @@
 // Where an operand lies, after the Rust's `mem_ops.rs`. Kinds are a record's numbers: one that is in no list has to be answered too, and has no location. The
 // stack page and sp are two parameters: a struct of both would be made anew for the destination, whose page is the same and whose sp is not.
-ghost use Rattle.std.specs.Prelude.{◌≡◌, if◌then◌else◌, nat_le};
+ghost use Rattle.std.specs.Prelude.{◌≡◌, ◌%◌, ◌^◌, if◌then◌else◌, nat_le};
 ghost use Rattle.registers.specs.Registers.{register_of};
-ghost use Rattle.addressing.specs.Address.{location_in, vaddr_of, is_stack_kind, lacks_stack_page, source_at, destination_at, source_read, places_of};
+ghost use Rattle.addressing.specs.Address.{location_in, vaddr_of, is_stack_kind, lacks_stack_page, write_time, lacks_write_time, source_at, destination_at, source_read, places_of};
 
 use crate::{Located, Location, MemoryType, Places};
 use records::kinds::OperandKind;
@@ -36,37 +36,67 @@ pub fn lacks_stack_page(r: Record, base: u32) -> bool
     is_stack_kind(r.source_kind) | is_stack_kind(r.destination_kind)
 }
 
-fn at(memory_type: MemoryType, page: u32, index: u16) -> Location
-    ensures { result ≡ location_in memory_type page index }
+// Add and sub alone form the time of a write. Modulo 2^32: a sum that passes that is refused wherever the time is looked at.
+pub fn write_time(r: Record, time: u32) -> u32
+    ensures { result ≡ write_time r time % 2 ^ 32 }
+{
+    if checks::is_arithmetic(r) {
+        time.wrapping_add(3)
+    } else {
+        0
+    }
+}
+
+// A stack destination, and a write's time of more than 32 bits.
+pub fn lacks_write_time(r: Record, time: u32) -> bool
+    ensures { result ≡ lacks_write_time r time }
+{
+    // The time first: it decides for every record but at the last three times.
+    if time < 0xffff_fffd {
+        return false;
+    }
+    checks::is_arithmetic(r) & is_stack_kind(r.destination_kind)
+}
+
+fn at(memory_type: MemoryType, page: u32, index: u16, time: u32) -> Location
+    ensures { result ≡ location_in memory_type page index time }
 {
     Location::At {
         memory_type: memory_type as u8,
+        index,
         page,
-        index: u32::from(index),
+        time,
     }
 }
 
 // A source: push/pop is a pop.
 #[tactic(auto, unfolding(crate::specs::Address::source_at))]
-pub fn source_at(kind: u8, stack_page: u32, code_page: u32, sp: u16, vaddr: u16) -> Located
-    ensures { result ≡ source_at 16 kind stack_page code_page sp vaddr }
+pub fn source_at(
+    kind: u8,
+    stack_page: u32,
+    code_page: u32,
+    sp: u16,
+    vaddr: u16,
+    time: u32,
+) -> Located
+    ensures { result ≡ source_at 16 kind stack_page code_page sp vaddr time }
 {
     let popped = sp.wrapping_sub(vaddr);
     match OperandKind::try_from(kind) {
         Ok(OperandKind::PushPop) => Located {
-            location: at(MemoryType::Stack, stack_page, popped),
+            location: at(MemoryType::Stack, stack_page, popped, time),
             sp: popped,
         },
         Ok(OperandKind::StackOffset) => Located {
-            location: at(MemoryType::Stack, stack_page, popped),
+            location: at(MemoryType::Stack, stack_page, popped, time),
             sp,
         },
         Ok(OperandKind::CodePage) => Located {
-            location: at(MemoryType::Code, code_page, vaddr),
+            location: at(MemoryType::Code, code_page, vaddr, time),
             sp,
         },
         Ok(OperandKind::AbsoluteStack) => Located {
-            location: at(MemoryType::Stack, stack_page, vaddr),
+            location: at(MemoryType::Stack, stack_page, vaddr, time),
             sp,
         },
         _ => Located {
@@ -78,22 +108,22 @@ pub fn source_at(kind: u8, stack_page: u32, code_page: u32, sp: u16, vaddr: u16)
 
 // A destination: push/pop is a push. Kinds 1 and 4 are refused before. Not one function with the source's: a pop reads where sp has moved to, a push writes before it moves.
 #[tactic(auto, unfolding(crate::specs::Address::destination_at))]
-pub fn destination_at(kind: u8, stack_page: u32, sp: u16, vaddr: u16) -> Located
-    ensures { result ≡ destination_at 16 kind stack_page sp vaddr }
+pub fn destination_at(kind: u8, stack_page: u32, sp: u16, vaddr: u16, time: u32) -> Located
+    ensures { result ≡ destination_at 16 kind stack_page sp vaddr time }
 {
     let below = sp.wrapping_sub(vaddr);
     let above = sp.wrapping_add(vaddr);
     match OperandKind::try_from(kind) {
         Ok(OperandKind::PushPop) => Located {
-            location: at(MemoryType::Stack, stack_page, sp),
+            location: at(MemoryType::Stack, stack_page, sp, time),
             sp: above,
         },
         Ok(OperandKind::StackOffset) => Located {
-            location: at(MemoryType::Stack, stack_page, below),
+            location: at(MemoryType::Stack, stack_page, below, time),
             sp,
         },
         Ok(OperandKind::AbsoluteStack) => Located {
-            location: at(MemoryType::Stack, stack_page, vaddr),
+            location: at(MemoryType::Stack, stack_page, vaddr, time),
             sp,
         },
         _ => Located {
@@ -121,15 +151,24 @@ fn memory_vaddr(kind: u8, registers: [U256; 15], n: u8, imm: u16) -> u16
     vaddr(registers::select(registers, n), imm)
 }
 
-// Source first, then destination on the changed sp.
+// Source first, then destination on the changed sp; the source is read at one time and the destination written at another.
 #[tactic(auto, unfolding(crate::specs::Address::places_of, crate::specs::Address::source_at, crate::specs::Address::destination_at))]
-pub fn places(r: Record, registers: [U256; 15], stack_page: u32, code_page: u32, sp: u16) -> Places
-    ensures { result ≡ places_of 16 r registers stack_page code_page sp }
+pub fn places(
+    r: Record,
+    registers: [U256; 15],
+    stack_page: u32,
+    code_page: u32,
+    sp: u16,
+    read_time: u32,
+    write_time: u32,
+) -> Places
+    ensures { result ≡ places_of 16 r registers stack_page code_page sp read_time write_time }
 {
     let read = memory_vaddr(r.source_kind, registers, r.src0, r.imm_0);
-    let source = source_at(r.source_kind, stack_page, code_page, sp, read);
+    let source = source_at(r.source_kind, stack_page, code_page, sp, read, read_time);
     let written = memory_vaddr(r.destination_kind, registers, r.dst0, r.imm_1);
-    let destination = destination_at(r.destination_kind, stack_page, source.sp, written);
+    let kind = r.destination_kind;
+    let destination = destination_at(kind, stack_page, source.sp, written, write_time);
     let from = source.location;
     let to = destination.location;
     Places {

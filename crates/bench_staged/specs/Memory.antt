@@ -14,7 +14,7 @@ word_indexed words index = cond (leb 4 (length words)) (word_at words (index % (
 -- the word at a location, the empty word where there is none
 abbrev pub memory_word : List ℕ → Location → U256
 memory_word words Location.None = empty_word
-memory_word words (Location.At kind page index) = word_indexed words index
+memory_word words (Location.At kind index page time) = word_indexed words index
 
 -- the source location that operands tells
 abbrev pub source_told : Result OperandsAnswer Refusal → Location

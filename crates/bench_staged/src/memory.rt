@@ -5,15 +5,14 @@ ghost use Rattle.bench_staged.specs.Memory.{word_indexed, memory_word};
 use addressing::Location;
 use u256::U256;
 
-// The index by a cast, since `From` makes no `usize` of a `u32`.
-fn word_indexed(words: &[u64], index: u32) -> U256
+fn word_indexed(words: &[u64], index: u16) -> U256
     ensures { result ≡ word_indexed words.now index }
 {
     let (places, _) = words.as_chunks::<4>();
     if places.is_empty() {
         u256::empty_word()
     } else {
-        bench_lines::word_of(&places[index as usize % places.len()])
+        bench_lines::word_of(&places[usize::from(index) % places.len()])
     }
 }
 

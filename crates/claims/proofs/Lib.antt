@@ -4,6 +4,7 @@ pub mod ExecuteView
 pub mod CoreLaws
 pub mod AnswersLaws
 pub mod WordUnread
+pub mod WritePlace
 pub mod EdgesHold
 pub mod Example
 pub mod Nested

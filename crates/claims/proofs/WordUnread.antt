@@ -30,8 +30,8 @@ use Rattle.claims.specs.SourceWord.{ExecutesAlike, WordUnread}
 use Rattle.claims.proofs.Views.{by_number}
 
 -- a source with no location is not the word read: it is a register, the immediate, or a nop's
-module _ (w stack code sp vaddr : ℕ) (register immediate empty read other : PrimitiveValue) where
-  no_word : (nop : Bool) (kind : ℕ) → kind ≤ 5 → source_read nop (source_at w kind stack code sp vaddr).location ≡ Location.None
+module _ (w stack code sp vaddr time : ℕ) (register immediate empty read other : PrimitiveValue) where
+  no_word : (nop : Bool) (kind : ℕ) → kind ≤ 5 → source_read nop (source_at w kind stack code sp vaddr time).location ≡ Location.None
       → cond (eqb kind 0) register (cond (eqb kind 1) immediate (cond nop empty read))
       ≡ cond (eqb kind 0) register (cond (eqb kind 1) immediate (cond nop empty other))
   unfolding source_at
@@ -45,11 +45,11 @@ module _ (w stack code sp vaddr : ℕ) (register immediate empty read other : Pr
   no_word false (suc (suc (suc (suc (suc (suc kind)))))) l e = absurd (omega arith)
 
 -- the operands of a good record with no source location
-sources_same : (r : Record) (words : List U256) (pointers : List Bool) (w stack code sp : ℕ) (word other : U256) (pointer bit : Bool) → good_record r ≡ true
-    → (places_of w r words stack code sp).source ≡ Location.None → sources_of r words pointers word pointer ≡ sources_of r words pointers other bit
+sources_same : (r : Record) (words : List U256) (pointers : List Bool) (w stack code sp time later : ℕ) (word other : U256) (pointer bit : Bool) → good_record r ≡ true
+    → (places_of w r words stack code sp time later).source ≡ Location.None → sources_of r words pointers word pointer ≡ sources_of r words pointers other bit
 unfolding places_of sources_of
-sources_same r words pointers w stack code sp word other pointer bit good e =
-    ap pair (no_word w stack code sp _ _ _ _ _ _ (is_nop r) r.source_kind (good_source r good) e)
+sources_same r words pointers w stack code sp time later word other pointer bit good e =
+    ap pair (no_word w stack code sp _ time _ _ _ _ _ (is_nop r) r.source_kind (good_source r good) e)
   where
     pair : PrimitiveValue → Sources
     pair v = cond r.swap (record { src0 = register_value words pointers r.src1; src1 = v }) (record { src0 = v; src1 = register_value words pointers r.src1 })
@@ -74,7 +74,7 @@ word_unread settings s store destination told_none later after given other =
     let c = clear (operands_checks settings s store) tt z in
     let none : (places_in 16 s).source ≡ Location.None = ap told e in
     alike later (operands_done 16 s).state after given other
-    (sources_same (record_of s) s.registers s.pointers 16 (stack_page s) s.current.code_page s.current.sp given.word other.word given.pointer other.pointer
+    (sources_same (record_of s) s.registers s.pointers 16 (stack_page s) s.current.code_page s.current.sp s.timestamp _ given.word other.word given.pointer other.pointer
     (not-false (good_record (record_of s)) c.1.1.0) none))
     (λ h e. absurd (cc))
     told_none

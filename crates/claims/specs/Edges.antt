@@ -75,8 +75,8 @@ calls multiplier held want =
     after : Staged ExecuteAnswer
     after = execute_of 16 (settings_of 4 multiplier) no_input s (empty_store 4)
 
--- operands of these kinds (2 is push/pop) with these immediates, at this sp: the source and the destination, each 0 for none or 1, memory kind, page and index,
--- and sp afterwards
+-- operands of an add of these kinds (2 is push/pop) with these immediates, at this sp and time 0: the source and the destination, each 0 for none or 1, memory kind,
+-- page, index and time, and sp afterwards
 abbrev places : State → Result OperandsAnswer Refusal → List ℕ
 places s (Ok answer) = location_case answer.source ++ (location_case answer.destination ++ (s.current.sp ∷ []))
 places s (Err refusal) = paper_number refusal ∷ []
@@ -131,11 +131,11 @@ edges =
     -- "want 2,147,483,648 times 2 passes all"
     ∷ record { computed = calls 2 969 2147483648; stated = 2 ∷ 969 ∷ 0 ∷ [] }
     -- "sp 0, pop 1: index and sp 65,535"
-    ∷ record { computed = addresses 2 0 1 0 0; stated = 1 ∷ 1 ∷ 1 ∷ 65535 ∷ 0 ∷ 65535 ∷ [] }
+    ∷ record { computed = addresses 2 0 1 0 0; stated = 1 ∷ 1 ∷ 1 ∷ 65535 ∷ 0 ∷ 0 ∷ 65535 ∷ [] }
     -- "sp 65,535, push 1: index 65,535, sp 0"
-    ∷ record { computed = addresses 0 2 0 1 65535; stated = 0 ∷ 1 ∷ 1 ∷ 1 ∷ 65535 ∷ 0 ∷ [] }
+    ∷ record { computed = addresses 0 2 0 1 65535; stated = 0 ∷ 1 ∷ 1 ∷ 1 ∷ 65535 ∷ 3 ∷ 0 ∷ [] }
     -- "sp 10, pop 1 and push 2 together: both index 9, sp 11"
-    ∷ record { computed = addresses 2 2 1 2 10; stated = 1 ∷ 1 ∷ 1 ∷ 9 ∷ 1 ∷ 1 ∷ 1 ∷ 9 ∷ 11 ∷ [] }
+    ∷ record { computed = addresses 2 2 1 2 10; stated = 1 ∷ 1 ∷ 1 ∷ 9 ∷ 0 ∷ 1 ∷ 1 ∷ 1 ∷ 9 ∷ 3 ∷ 11 ∷ [] }
     -- "(2^256 - 1) + 1: 0, overflow and equal"
     ∷ record { computed = combines 1 (2 ^ 256 - 1) 1; stated = 0 ∷ 1 ∷ 1 ∷ 0 ∷ [] }
     -- "0 - 1: overflow only"
@@ -143,7 +143,7 @@ edges =
     -- "5 - 5: equal only"
     ∷ record { computed = combines 2 5 5; stated = 0 ∷ 0 ∷ 1 ∷ 0 ∷ [] }
     -- "pc 65,535: super 16,383, sub 3, next 0"
-    ∷ record { computed = steps 65535; stated = 1 ∷ 2 ∷ 0 ∷ 16383 ∷ 0 ∷ 3 ∷ 0 ∷ [] }
+    ∷ record { computed = steps 65535; stated = 1 ∷ 2 ∷ 0 ∷ 16383 ∷ 0 ∷ 0 ∷ 3 ∷ 0 ∷ [] }
     ∷ []
 
 -- every line of the table holds

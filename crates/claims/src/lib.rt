@@ -6,6 +6,7 @@ ghost use Rattle.claims.specs.Core.{core};
 ghost use Rattle.claims.specs.Answers.{EveryCallAnswers, EveryEntryAnswers, ChargeAnswered};
 ghost use Rattle.claims.specs.Edges.{edges, AllHold};
 ghost use Rattle.claims.specs.SourceWord.{WordUnread, CodeUnread};
+ghost use Rattle.claims.specs.WritePlace.{WritesWhereAnswered};
 
 // Demand 1: each call of a stage finishes, or refuses with one of its numbers and changes nothing.
 pub fn every_call_answers()
@@ -49,6 +50,11 @@ pub fn word_unread()
 #[tactic(auto, unfolding(stages::specs::Fetch::query_of, stages::specs::Fetch::fetch_of, stages::specs::Fetch::fetch_done))]
 pub fn code_unread()
     ensures { CodeUnread }
+{}
+
+// What execute writes is at the place and time that operands answered.
+pub fn writes_where_answered()
+    ensures { WritesWhereAnswered }
 {}
 
 // The edges that document 01 marks P.

@@ -1,6 +1,6 @@
 // What is checked of records: each field in its list, and whether the three may come together.
 ghost use Rattle.std.specs.Prelude.{◌≡◌, nat_le};
-ghost use Rattle.records.specs.Record.{good_kinds, good_registers, good_record, is_panic, is_nop, bad_records};
+ghost use Rattle.records.specs.Record.{good_kinds, good_registers, good_record, is_panic, is_nop, is_arithmetic, bad_records};
 
 use crate::kinds::{Condition, OperandKind, Operation, ReturnKind};
 use crate::{Record, Records};
@@ -56,6 +56,12 @@ pub fn is_nop(r: Record) -> bool
     ensures { result ≡ is_nop r }
 {
     r.operation == Operation::Nop as u8
+}
+
+pub fn is_arithmetic(r: Record) -> bool
+    ensures { result ≡ is_arithmetic r }
+{
+    (r.operation == Operation::Add as u8) | (r.operation == Operation::Sub as u8)
 }
 
 // Refusal 3 of decode. The last three say whether execution has ended, an exception is pending, and decode sets some flag. What a panic and a nop record are has

@@ -64,22 +64,23 @@ fn put_state(out: &mut Writer, state: &State, store: &[u32; STORE]) {
     put_all(out, &store[..words_of(state.depth)]);
 }
 
-// Its kind, page and index.
-fn place_numbers(place: Location) -> [u32; 3] {
+// Its kind, page, index and time.
+fn place_numbers(place: Location) -> [u32; 4] {
     match place {
-        Location::None => [0; 3],
+        Location::None => [0; 4],
         Location::At {
             memory_type,
-            page,
             index,
-        } => [u32::from(memory_type), page, index],
+            page,
+            time,
+        } => [u32::from(memory_type), page, u32::from(index), time],
     }
 }
 
 // That a read was wanted, 1, stands for its kind, which is always code.
 fn put_read(out: &mut Writer, place: Location) {
-    let [kind, page, index] = place_numbers(place);
-    put_all(out, &[kind.min(1), page, index]);
+    let [kind, page, index, time] = place_numbers(place);
+    put_all(out, &[kind.min(1), page, index, time]);
 }
 
 fn put_fetch(out: &mut Writer, answer: FetchAnswer) {
@@ -115,7 +116,8 @@ fn put_write(out: &mut Writer, write: Option<Write>) {
         return;
     };
     let kind = u32::from(write.memory_type);
-    put_all(out, &[1, kind, write.page, write.index, write.time]);
+    let index = u32::from(write.index);
+    put_all(out, &[1, kind, write.page, index, write.time]);
     put_word(out, write.value.value);
     put(out, write.value.is_pointer);
 }

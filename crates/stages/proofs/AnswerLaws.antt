@@ -1,5 +1,5 @@
 -- The number of execute's answer is that of the first check that holds, and what it tells is what document 01 says. Assumes nothing.
-use Rattle.std.proofs.Common.{◌≡◌, ℕ, zero, suc, ◌+◌, ◌<◌, Bool, true, false, cond, not, ◌&&◌, ◌||◌, T, eqb, List, [], ◌∷◌, ◌++◌, refl, sym, ◌∙◌, arith, eqb-true}
+use Rattle.std.proofs.Common.{◌≡◌, ℕ, zero, suc, ◌<◌, Bool, true, false, cond, not, ◌&&◌, ◌||◌, T, eqb, List, [], ◌∷◌, ◌++◌, refl, sym, ◌∙◌, arith, eqb-true}
 use Rattle.std.proofs.lemmas.Bool.{cond_both, eqb-false}
 use mir.Val.{bool_byte}
 use Rattle.u256.specs.declared.U256.{U256}
@@ -64,16 +64,16 @@ module _ (settings : Settings) (input : ExecuteInput) (s : State) (store : List 
 
   -- what add and sub write, and what a return tells
   abbrev sum_write : List ℕ
-  sum_write = location_case s.kept.write ++ ((s.timestamp + 3) ∷ value_of (result_in a b s).0 ∷ 0 ∷ [])
+  sum_write = location_case s.kept.write ++ (value_of (result_in a b s).0 ∷ 0 ∷ [])
 
   abbrev closing : List ℕ
   closing = 2 ∷ bool_byte (not (is_return_ok (record_of s))) ∷ []
 
   written : (l : Location)
-      → write_case (write_of l s.timestamp (record { value = (result_in a b s).0; is_pointer = false })) ∷ nothing ∷ []
-      ≡ cond (is_stored l) (location_case l ++ ((s.timestamp + 3) ∷ value_of (result_in a b s).0 ∷ 0 ∷ [])) nothing ∷ nothing ∷ []
+      → write_case (write_of l (record { value = (result_in a b s).0; is_pointer = false })) ∷ nothing ∷ []
+      ≡ cond (is_stored l) (location_case l ++ (value_of (result_in a b s).0 ∷ 0 ∷ [])) nothing ∷ nothing ∷ []
   written Location.None = refl
-  written (Location.At kind page index) = refl
+  written (Location.At kind index page time) = refl
 
   -- what is told by the tests of an operation's number
   told_of : (n : ℕ) → n < 5

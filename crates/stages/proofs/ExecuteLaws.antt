@@ -86,33 +86,33 @@ module _ (settings : Settings) (input : ExecuteInput) (s : State) (store : List 
         → eqb (record_of s).operation 3 ≡ call → eqb (record_of s).operation 4 ≡ ret
         → (after : List ℕ)
         → r
-        ≡ settled (first_of (operation_checks ret call sum (good_row 16 (top_row s store)) (top_frame s store) settings s)) (refused_with s)
+        ≡ settled (first_of (operation_checks ret call (good_row 16 (top_row s store)) (top_frame s store) settings s)) (refused_with s)
         (cond nop (nop_done 16 settings s)
         (cond sum (arithmetic_done 16 settings sources.src0.value sources.src1.value s)
         (cond call (near_call_done 16 settings (low_of 32 sources.src0.value) s) (close_done settings (top_frame s store) s))))
         → after
-        ≡ cond (eqb (first_of (operation_checks ret call sum (good_row 16 (top_row s store)) (top_frame s store) settings s)) 0)
+        ≡ cond (eqb (first_of (operation_checks ret call (good_row 16 (top_row s store)) (top_frame s store) settings s)) 0)
         (cond call (saved_store store s.depth (caller_in 16 settings (low_of 32 sources.src0.value) s)) store) store
         → Ensured settings input s store r after
     unfolding execute_of execute_done execute_store
     by_operation nop sum call ret en eu' ec et after er ea =
         ensured settings input s store r after (rw (first, en, eu', ec, ← es) er) (rw (first, ec, ← es) ea)
       where
-        first : first_of (execute_checks 16 settings input s store) ≡ first_of (operation_checks ret call sum (good_row 16 (top_row s store)) (top_frame s store) settings s)
+        first : first_of (execute_checks 16 settings input s store) ≡ first_of (operation_checks ret call (good_row 16 (top_row s store)) (top_frame s store) settings s)
         first =
-            rw (← es, ← ez, ← eu, ← eg, ← ek, ← eh, ← et, ← ec, ← eu')
+            rw (← es, ← ez, ← eu, ← eg, ← ek, ← eh, ← et, ← ec)
             (none sizes turn (not good) (eqb (record_of s).operation 5) held _ z)
 
     pub at_nop : (record_of s).operation ≡ 0 → r ≡ nop_of 16 settings s → Ensured settings input s store r store
     unfolding nop_of
-    at_nop o e = by_operation true false false false (grind arith) (grind arith) (grind arith) (grind arith) store e (same (first_of (operation_checks false false false true s.current settings s)))
+    at_nop o e = by_operation true false false false (grind arith) (grind arith) (grind arith) (grind arith) store e (same (first_of (operation_checks false false true s.current settings s)))
 
     pub at_sum : ((record_of s).operation ≡ 0 → ⊥) → (record_of s).operation < 3
         → r ≡ arithmetic_of 16 settings sources.src0.value sources.src1.value s → Ensured settings input s store r store
     unfolding arithmetic_of
     at_sum n h e =
         let t = sum_tests (record_of s).operation n h in
-        by_operation false true false false t.0 t.1 t.2 t.3 store e (same (first_of (operation_checks false false true true s.current settings s)))
+        by_operation false true false false t.0 t.1 t.2 t.3 store e (same (first_of (operation_checks false false true s.current settings s)))
 
     pub at_call : (record_of s).operation ≡ 3 → r ≡ near_call_of 16 settings (low_of 32 sources.src0.value) s
         → (after : List ℕ) → after ≡ near_call_store 16 settings (low_of 32 sources.src0.value) s store → Ensured settings input s store r after
@@ -124,4 +124,4 @@ module _ (settings : Settings) (input : ExecuteInput) (s : State) (store : List 
     unfolding return_of
     at_return n m h e =
         let o = returning sizes turn held good (record_of s).operation z (λ t. good_operation (record_of s) (sym eg ∙ t)) n m h in
-        by_operation false false false true (grind arith) (grind arith) (grind arith) (grind arith) store e (same (first_of (operation_checks true false false (good_row 16 (top_row s store)) (top_frame s store) settings s)))
+        by_operation false false false true (grind arith) (grind arith) (grind arith) (grind arith) store e (same (first_of (operation_checks true false (good_row 16 (top_row s store)) (top_frame s store) settings s)))

@@ -37,7 +37,7 @@ read_err a b g x t e = grind arith
 
 module _ (settings : Settings) (s : State) (store : List ℕ) (r : Staged ExecuteAnswer) where
   abbrev checked : ℕ
-  checked = first_of (operation_checks true false false (good_row 16 (top_row s store)) (top_frame s store) settings s)
+  checked = first_of (operation_checks true false (good_row 16 (top_row s store)) (top_frame s store) settings s)
 
   pub early : (not s.current.is_local_frame || eqb s.depth 0) ≡ true
       → (q : Refusal) → q ≡ cond (not s.current.is_local_frame) Refusal.FarReturn Refusal.NoCaller → r ≡ record { state = s; answer = Err q }

@@ -1,5 +1,5 @@
 -- The answers of the stages, case by case: what a finished answer tells, in numbers. Tells.antt says which numbers are to be told.
-use Rattle.std.specs.Prelude.{ℕ, List, [], ◌∷◌, Option, None, Some, Result, Ok, Err}
+use Rattle.std.specs.Prelude.{ℕ, List, [], ◌∷◌, ◌++◌, Option, None, Some, Result, Ok, Err}
 use mir.Val.{bool_byte}
 use Rattle.u256.specs.U256.{value_of}
 use Rattle.refusal.specs.declared.Refusal.{Refusal}
@@ -31,15 +31,20 @@ decode_case (Ok answer) =
     ∷ []
 decode_case (Err refusal) = []
 
--- "either no location or a memory kind, page and index": 0, or 1 and these; memory kinds 1 stack, 2 code
+-- "either no location or a memory kind, page and index", and document 02's CR 1: "location now carries its time". 0, or 1 and these; memory kinds 1 stack, 2 code.
 abbrev pub location_case : Location → List ℕ
 location_case Location.None = 0 ∷ []
-location_case (Location.At kind page index) = 1 ∷ kind ∷ page ∷ index ∷ []
+location_case (Location.At kind index page time) = 1 ∷ kind ∷ page ∷ index ∷ time ∷ []
 
--- "A write carries time plus 3": 0 where nothing is written, or 1 and the location, the time, the value and its pointer bit
+-- where and when a write is made
+abbrev pub place_of : Option Write → Location
+place_of None = Location.None
+place_of (Some w) = Location.At w.memory_type w.index w.page w.time
+
+-- "Execute's write carries the kept time": 0 where nothing is written, or what its location has, the value and its pointer bit
 abbrev pub write_case : Option Write → List ℕ
 write_case None = 0 ∷ []
-write_case (Some w) = 1 ∷ w.memory_type ∷ w.page ∷ w.index ∷ w.time ∷ value_of w.value.value ∷ bool_byte w.value.is_pointer ∷ []
+write_case (Some w) = location_case (place_of (Some w)) ++ (value_of w.value.value ∷ bool_byte w.value.is_pointer ∷ [])
 
 -- "Events: frame opened, frame closed with its panicked bit": 1 and 2, 0 where there is none
 abbrev pub event_case : Option Event → List ℕ

@@ -1,5 +1,4 @@
--- Add and sub. The result goes to the write location, or to register dst0 where there is none (0: nowhere), with its pointer bit off. Document 01: "A write carries
--- time plus 3."
+-- Add and sub. The result goes to the write location, or to register dst0 where there is none (0: nowhere), with its pointer bit off.
 use Rattle.std.specs.Prelude.{ℕ, Bool, false, cond, None, Ok}
 use Rattle.u256.specs.declared.U256.{U256}
 use Rattle.records.specs.declared.Settings.{Settings}
@@ -25,7 +24,7 @@ arithmetic_done w settings a b s = record {
       (result_in a b s).0;
   answer =
       Ok (record {
-        write = write_of s.kept.write s.timestamp (record { value = (result_in a b s).0; is_pointer = false });
+        write = write_of s.kept.write (record { value = (result_in a b s).0; is_pointer = false });
         event = None;
       });
 }

@@ -23,20 +23,24 @@ abbrev no_word : ExecuteInput
 no_word = record { word = empty_word; pointer = false }
 
 -- the list from 7 on, and from 10 on
-abbrev pub operation_checks : Bool → Bool → Bool → Bool → Frame → Settings → State → List Check
-operation_checks ret near_call arithmetic good caller settings s = drop 5 (checks_of ret near_call arithmetic good caller settings no_word s [])
+abbrev pub operation_checks : Bool → Bool → Bool → Frame → Settings → State → List Check
+operation_checks ret near_call good caller settings s = drop 5 (checks_of ret near_call good caller settings no_word s [])
 
 abbrev pub closing_checks : Settings → Frame → State → List Check
-closing_checks settings caller s = drop 8 (checks_of true false false true caller settings no_word s [])
+closing_checks settings caller s = drop 8 (checks_of true false true caller settings no_word s [])
+
+-- of nop, add and sub: 14 alone is about them
+abbrev pub late_refusal : Settings → State → ℕ
+late_refusal settings s = first_of (operation_checks false false true s.current settings s)
 
 unfoldable pub nop_of : ℕ → Settings → State → Staged ExecuteAnswer
-nop_of w settings s = settled (first_of (operation_checks false false false true s.current settings s)) (refused_with s) (nop_done w settings s)
+nop_of w settings s = settled (late_refusal settings s) (refused_with s) (nop_done w settings s)
 
 unfoldable pub arithmetic_of : ℕ → Settings → U256 → U256 → State → Staged ExecuteAnswer
-arithmetic_of w settings a b s = settled (first_of (operation_checks false false true true s.current settings s)) (refused_with s) (arithmetic_done w settings a b s)
+arithmetic_of w settings a b s = settled (late_refusal settings s) (refused_with s) (arithmetic_done w settings a b s)
 
 abbrev pub call_refusal : Settings → State → ℕ
-call_refusal settings s = first_of (operation_checks false true false true s.current settings s)
+call_refusal settings s = first_of (operation_checks false true true s.current settings s)
 
 unfoldable pub near_call_of : ℕ → Settings → ℕ → State → Staged ExecuteAnswer
 near_call_of w settings want s = settled (call_refusal settings s) (refused_with s) (near_call_done w settings want s)
@@ -50,5 +54,5 @@ close_of settings caller s = settled (first_of (closing_checks settings caller s
 
 unfoldable pub return_of : ℕ → Settings → State → List ℕ → Staged ExecuteAnswer
 return_of w settings s store =
-    settled (first_of (operation_checks true false false (good_row w (top_row s store)) (top_frame s store) settings s)) (refused_with s)
+    settled (first_of (operation_checks true false (good_row w (top_row s store)) (top_frame s store) settings s)) (refused_with s)
     (close_done settings (top_frame s store) s)

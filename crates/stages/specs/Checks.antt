@@ -2,7 +2,7 @@
 -- that holds decides. 15 is the tally's. Of every stage: 1, "limit 0 or above the store's whole rows, or depth above limit", and 2, "stage out of turn"; of all but fetch
 -- 3, whose words are in records/specs/Record.antt. w is the width of sp, pc, handler and immediates, 16 in the production encoding, here and in the definitions of the
 -- stages.
-use Rattle.std.specs.Prelude.{ℕ, ◌+◌, ◌-◌, ◌^◌, Bool, true, false, not, ◌&&◌, ◌||◌, List, [], ◌∷◌, ◌==◌, nat_le}
+use Rattle.std.specs.Prelude.{ℕ, ◌-◌, Bool, true, false, not, ◌&&◌, ◌||◌, List, [], ◌∷◌, ◌==◌}
 use Rattle.refusal.specs.Refusal.{Check, ◌refuses◌}
 use Rattle.frame.specs.declared.Frame.{Frame}
 use Rattle.frame.specs.Kernel.{kernel_mode}
@@ -10,12 +10,12 @@ use Rattle.frame.specs.Row.{frame_of, good_row}
 use Rattle.frame.specs.Store.{row_at}
 use Rattle.records.specs.declared.Settings.{Settings}
 use Rattle.records.specs.declared.Records.{Records}
-use Rattle.records.specs.Record.{good_record, is_arithmetic, is_near_call, is_return, is_other, is_return_ok, bad_records}
+use Rattle.records.specs.Record.{good_record, is_near_call, is_return, is_other, is_return_ok, bad_records}
 use Rattle.decoding.specs.declared.ErrorFlags.{ErrorFlags}
 use Rattle.decoding.specs.Charge.{error_flags, any_error}
 use Rattle.addressing.specs.declared.Location.{Location}
 use Rattle.addressing.specs.declared.Sources.{Sources}
-use Rattle.addressing.specs.Address.{lacks_stack_page}
+use Rattle.addressing.specs.Address.{lacks_stack_page, lacks_write_time}
 use Rattle.addressing.specs.Sources.{sources_of, pointer_refused}
 use Rattle.operations.specs.Ret.{pubdata_after, counter_after, is_outside, is_bad_counter, ergs_past, is_shrunk}
 use Rattle.operations.specs.Time.{is_late}
@@ -42,13 +42,17 @@ decode_checks settings records s store =
     ∷ []
 
 -- ---- operands
--- "On later stages 3 is about the kept record." "operands: page of a stack kind; ... above 32 bits"
+-- "operands: page of a stack kind", and, of document 02's CR 1, the time of a write: "Its part of refusal 14 moves from execute to operands."
+abbrev pub lacks_place : State → Bool
+lacks_place s = lacks_stack_page (record_of s) s.current.base_memory_page || lacks_write_time (record_of s) s.timestamp
+
+-- "On later stages 3 is about the kept record." 14 is "above 32 bits".
 abbrev pub operands_checks : Settings → State → List ℕ → List Check
 operands_checks settings s store =
     (bad_store settings s store refuses 1)
     ∷ (out_of_turn at_operands s refuses 2)
     ∷ (not (good_record (record_of s)) refuses 3)
-    ∷ (lacks_stack_page (record_of s) s.current.base_memory_page refuses 14)
+    ∷ (lacks_place s refuses 14)
     ∷ []
 
 -- ---- execute
@@ -69,20 +73,16 @@ bad_reverts s = is_bad_counter (counter_after (is_return_ok (record_of s)) s.pub
 -- whether a write location is kept
 abbrev pub is_stored : Location → Bool
 is_stored Location.None = false
-is_stored (Location.At kind page index) = true
-
--- "time of a memory write"
-abbrev pub late_write : State → Bool
-late_write s = is_stored s.kept.write && nat_le (2 ^ 32) (s.timestamp + 3)
+is_stored (Location.At kind index page time) = true
 
 -- "time after the cycle, cycle counter"
 abbrev pub late_in : Settings → State → Bool
 late_in settings s = is_late s.timestamp settings.time_step s.monotonic_cycle_counter (is_ended s)
 
--- The list. It is told whether the kept record is a return, a near call, add or sub, whether the top row is good, and which frame it holds: a check is made where it
--- is about the operation.
-abbrev pub checks_of : Bool → Bool → Bool → Bool → Frame → Settings → ExecuteInput → State → List ℕ → List Check
-checks_of ret near_call arithmetic good caller settings input s store =
+-- The list. It is told whether the kept record is a return or a near call, whether the top row is good, and which frame it holds: a check is made where it is about
+-- the operation.
+abbrev pub checks_of : Bool → Bool → Bool → Frame → Settings → ExecuteInput → State → List ℕ → List Check
+checks_of ret near_call good caller settings input s store =
     -- as on the other stages
     (bad_store settings s store refuses 1)
     ∷ (out_of_turn at_execute s refuses 2)
@@ -105,8 +105,8 @@ checks_of ret near_call arithmetic good caller settings input s store =
     ∷ ((ret && ergs_past caller.ergs_remaining s.current.ergs_remaining) refuses 12)
     -- "return: a heap bound below the caller's"
     ∷ ((ret && is_shrunk caller s.current) refuses 13)
-    -- "execute: time of a memory write, time after the cycle, cycle counter; above 32 bits"
-    ∷ ((arithmetic && late_write s || late_in settings s) refuses 14)
+    -- "time after the cycle, cycle counter; above 32 bits"
+    ∷ (late_in settings s refuses 14)
     ∷ []
 
 -- the top row, and the caller that it holds; a row that is not good has refused before that is looked at
@@ -119,5 +119,4 @@ top_frame s store = frame_of (top_row s store)
 -- by the kept record and the store
 abbrev pub execute_checks : ℕ → Settings → ExecuteInput → State → List ℕ → List Check
 execute_checks w settings input s store =
-    checks_of (is_return (record_of s)) (is_near_call (record_of s)) (is_arithmetic (record_of s)) (good_row w (top_row s store)) (top_frame s store)
-    settings input s store
+    checks_of (is_return (record_of s)) (is_near_call (record_of s)) (good_row w (top_row s store)) (top_frame s store) settings input s store

@@ -1,5 +1,6 @@
 -- Fetch. Document 01: "A query says whether a code read is wanted, and from which page and index: page or super pc changed, and not ended. It reads the state alone
--- and never refuses. Fetch takes that word, not looked at when none was wanted." "The answer is 64 bits of code, or exception (pending), or nop (ended)."
+-- and never refuses. Fetch takes that word, not looked at when none was wanted." "The answer is 64 bits of code, or exception (pending), or nop (ended)." The query's
+-- location carries "the state's time for a read", as document 02's CR 1 has it of operands.
 use Rattle.std.specs.Prelude.{ℕ, Bool, cond, not, ◌&&◌, List, Option, Ok, unwrap_or}
 use Rattle.std.specs.Bool.{then_some}
 use Rattle.u256.specs.declared.U256.{U256}
@@ -19,11 +20,11 @@ abbrev pub code_wanted : State → Bool
 code_wanted s =
     not (is_ended s) && code_changed s.current.code_page s.previous_code_memory_page (super_pc s.current.pc) s.previous_super_pc
 
-abbrev pub location_if : Bool → ℕ → ℕ → Location
-location_if wanted page index = cond wanted (in_code page index) Location.None
+abbrev pub location_if : Bool → ℕ → ℕ → ℕ → Location
+location_if wanted page index time = cond wanted (in_code page index time) Location.None
 
 unfoldable pub query_of : State → Location
-query_of s = location_if (code_wanted s) s.current.code_page (super_pc s.current.pc)
+query_of s = location_if (code_wanted s) s.current.code_page (super_pc s.current.pc) s.timestamp
 
 -- the answers: "nop (ended)", "exception (pending)", or 64 bits of code
 abbrev pub code_answer : Bool → Bool → ℕ → FetchAnswer

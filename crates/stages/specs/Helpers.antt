@@ -1,4 +1,5 @@
--- What the operations of execute share, and nop. Document 01: "Nop sets pc only (from the specification)"; "A write carries time plus 3."
+-- What the operations of execute share, and nop. Document 01: "Nop sets pc only (from the specification)". Document 02, CR 1: "Execute's write carries the
+-- kept time."
 use Rattle.std.specs.Prelude.{ℕ, ◌+◌, Option, None, Some, Ok}
 use Rattle.records.specs.declared.Settings.{Settings}
 use Rattle.addressing.specs.declared.Location.{Location}
@@ -15,9 +16,9 @@ use Rattle.stages.specs.Effects.{finished_state, moved_state}
 abbrev pub finished_in : Settings → State → State
 finished_in settings s = finished_state s (time_after s.timestamp settings.time_step (is_ended s)) (s.monotonic_cycle_counter + 1)
 
-abbrev pub write_of : Location → ℕ → PrimitiveValue → Option Write
-write_of Location.None time value = None
-write_of (Location.At kind page index) time value = Some (record { memory_type = kind; page = page; index = index; time = time + 3; value = value })
+abbrev pub write_of : Location → PrimitiveValue → Option Write
+write_of Location.None value = None
+write_of (Location.At kind index page time) value = Some (record { memory_type = kind; index = index; page = page; time = time; value = value })
 
 unfoldable pub nop_done : ℕ → Settings → State → Staged ExecuteAnswer
 nop_done w settings s = record {

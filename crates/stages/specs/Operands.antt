@@ -1,12 +1,12 @@
--- Operands. Document 01: "Source first, then destination on the changed sp." "Stack page is base plus 1. Nop reads nothing but moves sp." The answer is where the
--- source is read, and where the destination is to be written.
+-- Operands. Document 01: "Source first, then destination on the changed sp." "Stack page is base plus 1. Nop reads nothing but moves sp." The answer is where and
+-- when the source is read, and where and when the destination is to be written. Document 02, CR 1: "the state's time for a read, 3 more for a write".
 use Rattle.std.specs.Prelude.{ℕ, ◌+◌, List, Ok}
 use Rattle.refusal.specs.Refusal.{first_of}
 use Rattle.frame.specs.Fields.{with_sp}
 use Rattle.records.specs.declared.Settings.{Settings}
 use Rattle.addressing.specs.declared.Location.{Location}
 use Rattle.addressing.specs.declared.Places.{Places}
-use Rattle.addressing.specs.Address.{places_of}
+use Rattle.addressing.specs.Address.{write_time, places_of}
 use Rattle.stages.specs.declared.State.{State}
 use Rattle.stages.specs.declared.Staged.{Staged}
 use Rattle.stages.specs.declared.OperandsAnswer.{OperandsAnswer}
@@ -18,7 +18,8 @@ stack_page s = s.current.base_memory_page + 1
 
 -- the two places
 abbrev pub places_in : ℕ → State → Places
-places_in w s = places_of w (record_of s) s.registers (stack_page s) s.current.code_page s.current.sp
+places_in w s =
+    places_of w (record_of s) s.registers (stack_page s) s.current.code_page s.current.sp s.timestamp (write_time (record_of s) s.timestamp)
 
 abbrev pub operands_refusal : Settings → State → List ℕ → ℕ
 operands_refusal settings s store = first_of (operands_checks settings s store)

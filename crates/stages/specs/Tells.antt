@@ -23,9 +23,9 @@ use Rattle.stages.specs.Execute.{execute_refusal}
 use Rattle.stages.specs.Answers.{location_case}
 
 -- ---- what the query, fetch and decode are to tell
--- "whether a code read is wanted, and from which page and index"
+-- "whether a code read is wanted, and from which page and index", and "the state's time"
 abbrev pub query_tells : State → List ℕ
-query_tells s = cond (code_wanted s) (1 ∷ 2 ∷ s.current.code_page ∷ super_pc s.current.pc ∷ []) (0 ∷ [])
+query_tells s = cond (code_wanted s) (1 ∷ 2 ∷ s.current.code_page ∷ super_pc s.current.pc ∷ s.timestamp ∷ []) (0 ∷ [])
 
 -- "nop (ended)", "exception (pending)", or the 64 bits of the code word that sub pc picks
 abbrev pub fetch_tells : Settings → U256 → State → List ℕ → List ℕ
@@ -59,32 +59,35 @@ destination_vaddr w s = vaddr_of w (register_of s.registers (record_of s).dst0) 
 abbrev pub sp_after_source : ℕ → State → ℕ
 sp_after_source w s = cond ((record_of s).source_kind == 2) (wrapping_difference w s.current.sp (source_vaddr w s)) s.current.sp
 
--- "Nop reads nothing". Kinds 2 push/pop and 3 stack offset lie at sp minus vaddr, 4 code page and 5 absolute stack at vaddr.
+-- "Nop reads nothing". Kinds 2 push/pop and 3 stack offset lie at sp minus vaddr, 4 code page and 5 absolute stack at vaddr. "The state's time for a read".
 abbrev pub source_tells : ℕ → State → List ℕ
 source_tells w s =
     cond (is_nop (record_of s)) (0 ∷ [])
     (cond ((record_of s).source_kind == 2 || (record_of s).source_kind == 3)
-    (1 ∷ 1 ∷ stack_page s ∷ wrapping_difference w s.current.sp (source_vaddr w s) ∷ [])
-    (cond ((record_of s).source_kind == 4) (1 ∷ 2 ∷ s.current.code_page ∷ source_vaddr w s ∷ [])
-    (cond ((record_of s).source_kind == 5) (1 ∷ 1 ∷ stack_page s ∷ source_vaddr w s ∷ []) (0 ∷ []))))
+    (1 ∷ 1 ∷ stack_page s ∷ wrapping_difference w s.current.sp (source_vaddr w s) ∷ s.timestamp ∷ [])
+    (cond ((record_of s).source_kind == 4) (1 ∷ 2 ∷ s.current.code_page ∷ source_vaddr w s ∷ s.timestamp ∷ [])
+    (cond ((record_of s).source_kind == 5) (1 ∷ 1 ∷ stack_page s ∷ source_vaddr w s ∷ s.timestamp ∷ []) (0 ∷ []))))
+
+-- "3 more for a write", "only for add and sub; any other operation's write location carries 0"
+abbrev pub time_of_write : State → ℕ
+time_of_write s = cond (is_arithmetic (record_of s)) (s.timestamp + 3) 0
 
 -- "destination on the changed sp": a push "writes at the old sp", the others as a source
 abbrev pub destination_tells : ℕ → State → List ℕ
 destination_tells w s =
-    cond ((record_of s).destination_kind == 2) (1 ∷ 1 ∷ stack_page s ∷ sp_after_source w s ∷ [])
-    (cond ((record_of s).destination_kind == 3) (1 ∷ 1 ∷ stack_page s ∷ wrapping_difference w (sp_after_source w s) (destination_vaddr w s) ∷ [])
-    (cond ((record_of s).destination_kind == 5) (1 ∷ 1 ∷ stack_page s ∷ destination_vaddr w s ∷ []) (0 ∷ [])))
+    cond ((record_of s).destination_kind == 2) (1 ∷ 1 ∷ stack_page s ∷ sp_after_source w s ∷ time_of_write s ∷ [])
+    (cond ((record_of s).destination_kind == 3) (1 ∷ 1 ∷ stack_page s ∷ wrapping_difference w (sp_after_source w s) (destination_vaddr w s) ∷ time_of_write s ∷ [])
+    (cond ((record_of s).destination_kind == 5) (1 ∷ 1 ∷ stack_page s ∷ destination_vaddr w s ∷ time_of_write s ∷ []) (0 ∷ [])))
 
 abbrev pub operands_tells : ℕ → Settings → State → List ℕ → List (List ℕ)
 operands_tells w settings s store = cond (operands_refusal settings s store == 0) (source_tells w s ∷ destination_tells w s ∷ []) []
 
 -- ---- what execute is to tell
--- add and sub write their result where a location is kept, with the pointer bit off
+-- add and sub write their result where and when a location is kept says, with the pointer bit off
 abbrev pub write_tells : ExecuteInput → State → List ℕ
 write_tells input s =
     cond (is_arithmetic (record_of s) && is_stored s.kept.write)
-    (location_case s.kept.write
-    ++ ((s.timestamp + 3) ∷ value_of (result_in (sources_in input s).src0.value (sources_in input s).src1.value s).0 ∷ 0 ∷ []))
+    (location_case s.kept.write ++ (value_of (result_in (sources_in input s).src0.value (sources_in input s).src1.value s).0 ∷ 0 ∷ []))
     (0 ∷ [])
 
 -- a near call opens a frame, a return closes one; revert and panic count as panicked

@@ -1,5 +1,5 @@
 // Add and sub, after the Rust's `add.rs`, `sub.rs` and `perform_dst0_update`.
-ghost use Rattle.std.specs.Prelude.{◌≡◌, ◌+◌, ◌^◌, ◌&&◌, nat_le, if◌then◌else◌};
+ghost use Rattle.std.specs.Prelude.{◌≡◌, if◌then◌else◌};
 ghost use Rattle.stages.specs.ByOperation.{arithmetic_of};
 
 use crate::{ExecuteAnswer, Executed, Staged, State, helpers};
@@ -8,13 +8,6 @@ use operations::{arithmetic, time};
 use records::Settings;
 use refusal::Refusal;
 use u256::U256;
-
-// Refusal 14 for the time of a memory write.
-fn is_late_write(stored: bool, time: u32) -> bool
-    ensures { result ≡ (stored && nat_le (2 ^ 32) (time + 3)) }
-{
-    stored & time.checked_add(3).is_none()
-}
 
 // No register where the result goes to memory.
 fn register(stored: bool, n: u8) -> u8
@@ -32,7 +25,7 @@ impl State {
         let instruction = kept.instruction;
         let location = kept.write;
         let stored = helpers::is_stored(location);
-        if self.is_late(settings) | is_late_write(stored, self.timestamp) {
+        if self.is_late(settings) {
             return self.refused(Refusal::Above32Bits);
         }
         let result = arithmetic::result(instruction.operation, a, b);
@@ -44,7 +37,7 @@ impl State {
             value: word,
             is_pointer: false,
         };
-        let write = helpers::write_of(location, self.timestamp, value);
+        let write = helpers::write_of(location, value);
         let moved = self.finish(settings).moved(pc);
         let next = moved.written(flags, register(stored, instruction.dst0), word);
         Staged {

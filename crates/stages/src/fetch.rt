@@ -12,14 +12,15 @@ use records::Settings;
 use refusal::Refusal;
 use u256::U256;
 
-fn query_of(wanted: bool, page: u32, index: u16) -> Location
-    ensures { result ≡ location_if wanted page index }
+fn query_of(wanted: bool, page: u32, index: u16, time: u32) -> Location
+    ensures { result ≡ location_if wanted page index time }
 {
     if wanted {
         Location::At {
             memory_type: MemoryType::Code as u8,
+            index,
             page,
-            index: u32::from(index),
+            time,
         }
     } else {
         Location::None
@@ -61,13 +62,14 @@ impl State {
         !self.is_ended() & changed
     }
 
-    // Whether a code read is wanted, and from where.
+    // Whether a code read is wanted, from where and when.
     #[tactic(auto, unfolding(crate::specs::Fetch::query_of))]
     pub fn code_query(self) -> Location
         ensures { (result ≡ query_of self) × (location_case result ≡ query_tells self) }
     {
         let page = self.current.code_page;
-        query_of(self.wants_code(), page, fetch::super_pc(self.current.pc))
+        let index = fetch::super_pc(self.current.pc);
+        query_of(self.wants_code(), page, index, self.timestamp)
     }
 
     // The word is the one that the query asked for, and is not looked at where it asked for none.

@@ -1,5 +1,5 @@
 // What the operations of execute share, after the Rust's `helpers.rs`.
-ghost use Rattle.std.specs.Prelude.{◌≡◌, ◌+◌, ◌^◌, ◌<◌, true, false};
+ghost use Rattle.std.specs.Prelude.{◌≡◌, ◌+◌, ◌^◌, ◌<◌, false};
 ghost use Rattle.operations.specs.Time.{time_after};
 ghost use Rattle.stages.specs.State.{stage_number, is_ended, bad_store, out_of_turn};
 ghost use Rattle.stages.specs.Effects.{no_flags, finished_state, moved_state, written_state, switched_state};
@@ -15,7 +15,7 @@ use records::{Flags, Record, Settings, sizes};
 use refusal::Refusal;
 use u256::U256;
 
-// The branch of the operation that calls it has tested that the time fits (D62): a test here would be made twice. So with write_of and State::finish.
+// The branch of the operation that calls it has tested that the time fits (D62): a test here would be made twice. So with State::finish.
 pub(crate) fn time_after(time: u32, step: u32, ended: bool) -> u32
     requires { ended ≡ false → time + step < 2 ^ 32 }
     ensures { result ≡ time_after time step ended }
@@ -35,24 +35,24 @@ pub(crate) fn is_stored(location: Location) -> bool
     matches!(location, Location::At { .. })
 }
 
-// A write carries time plus 3.
-pub(crate) fn write_of(location: Location, time: u32, value: PrimitiveValue) -> Option<Write>
-    requires { is_stored location ≡ true → time + 3 < 2 ^ 32 }
-    ensures { result ≡ write_of location time value }
+// A write carries the kept time, whatever it is.
+pub(crate) fn write_of(location: Location, value: PrimitiveValue) -> Option<Write>
+    ensures { result ≡ write_of location value }
 {
     let Location::At {
         memory_type,
-        page,
         index,
+        page,
+        time,
     } = location
     else {
         return None;
     };
     Some(Write {
         memory_type,
-        page,
         index,
-        time: time + 3,
+        page,
+        time,
         value,
     })
 }

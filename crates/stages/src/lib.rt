@@ -76,12 +76,12 @@ pub struct OperandsAnswer {
     pub destination: Location,
 }
 
-// What is to be written to memory; the kind is the number that the state's location has.
+// What is to be written to memory, where and when: as the state's location has it.
 #[derive(Clone, Copy)]
 pub struct Write {
     pub memory_type: u8,
+    pub index: u16,
     pub page: u32,
-    pub index: u32,
     pub time: u32,
     pub value: PrimitiveValue,
 }

@@ -1,12 +1,13 @@
 // Operands, from the Rust's `compute_addresses_and_select_operands`.
-ghost use Rattle.std.specs.Prelude.{◌≡◌};
-ghost use Rattle.stages.specs.Operands.{addressed_state, operands_refusal, operands_of};
+ghost use Rattle.std.specs.Prelude.{◌≡◌, false};
+ghost use Rattle.stages.specs.Checks.{lacks_place};
+ghost use Rattle.stages.specs.Operands.{places_in, addressed_state, operands_refusal, operands_of};
 ghost use Rattle.refusal.specs.Refusal.{refusal_number};
 ghost use Rattle.stages.specs.Answers.{operands_case};
 ghost use Rattle.stages.specs.Tells.{operands_tells};
 
 use crate::{Addressed, Kept, OperandsAnswer, Stage, Staged, State};
-use addressing::{Location, mem_ops};
+use addressing::{Location, Places, mem_ops};
 use records::{Settings, checks};
 use refusal::Refusal;
 
@@ -25,7 +26,36 @@ impl State {
         next
     }
 
-    #[tactic(auto, using(crate::proofs::OperandsLaws::places_exact, crate::proofs::OperandsLaws::places_told), unfolding(crate::specs::Operands::operands_of, crate::specs::Operands::operands_done))]
+    // Refusal 14 of operands.
+    fn lacks_place(self) -> bool
+        ensures { result ≡ lacks_place self }
+    {
+        let kept = self.kept;
+        let instruction = kept.instruction;
+        mem_ops::lacks_stack_page(instruction, self.current.base_memory_page)
+            | mem_ops::lacks_write_time(instruction, self.timestamp)
+    }
+
+    // Operands has tested that what is looked at of the stack page and of a write's time has 32 bits (D62).
+    #[tactic(auto, using(crate::proofs::OperandsLaws::places_exact))]
+    fn places(self) -> Places
+        requires { lacks_place self ≡ false }
+        ensures { result ≡ places_in 16 self }
+    {
+        let kept = self.kept;
+        let instruction = kept.instruction;
+        let registers = self.registers;
+        mem_ops::places(
+            instruction,
+            registers,
+            self.current.base_memory_page.wrapping_add(1),
+            self.current.code_page,
+            self.current.sp,
+            self.timestamp,
+            mem_ops::write_time(instruction, self.timestamp),
+        )
+    }
+
     pub fn operands(self, settings: Settings, store: &[u32]) -> Addressed
         ensures { (result ≡ operands_of 16 settings self store.now)
             × (refusal_number result.answer ≡ operands_refusal settings self store.now)
@@ -33,10 +63,9 @@ impl State {
     {
         let kept = self.kept;
         let instruction = kept.instruction;
-        let base = self.current.base_memory_page;
         let sizes = self.has_bad_store(settings, store);
         let bad = !checks::good_record(instruction);
-        let lacking = mem_ops::lacks_stack_page(instruction, base);
+        let lacking = self.lacks_place();
         let turn = self.is_out_of_turn(Stage::Operands);
         // One branch, and the list inside it (D62), as in decode.
         if sizes | turn | bad | lacking {
@@ -50,15 +79,7 @@ impl State {
             );
             return self.refused(refusal);
         }
-        let registers = self.registers;
-        let page = base.wrapping_add(1);
-        let places = mem_ops::places(
-            instruction,
-            registers,
-            page,
-            self.current.code_page,
-            self.current.sp,
-        );
+        let places = self.places();
         let source = places.source;
         let destination = places.destination;
         let next = self.addressed(places.sp, destination);
