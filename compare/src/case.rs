@@ -228,12 +228,12 @@ pub struct Location {
     pub memory: Memory,
     pub page: u32,
     pub index: u32,
+    pub time: u32,
 }
 
 #[derive(Clone, Copy, Debug, PartialEq, Eq)]
 pub struct Write {
     pub location: Location,
-    pub time: u32,
     pub value: Register,
 }
 

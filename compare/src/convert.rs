@@ -4,6 +4,7 @@ use crate::case::*;
 use zk_evm::flags::Flags;
 use zk_evm::vm_state::{CallStackEntry, Callstack, PrimitiveValue, VmLocalState};
 use zk_evm_abstractions::aux::{MemoryLocation, MemoryPage, MemoryType, PubdataCost};
+use zk_evm_abstractions::queries::MemoryQuery;
 use zkevm_opcode_defs::ethereum_types::{Address, U256};
 use zkevm_opcode_defs::instruction::{InstructionRecord, InstructionRecords};
 use zkevm_opcode_defs::{Condition, ImmMemHandlerFlags, NopOpcode, Opcode, Operand, RegOrImmFlags, RetOpcode};
@@ -156,8 +157,8 @@ pub fn with_openings(before: &State, mut after: State, told: Option<u32>) -> Sta
     after
 }
 
-/// A location of one of the two kinds that the stages use.
-pub fn from_location(location: MemoryLocation) -> Location {
+/// A location of one of the two kinds that the stages use, at a time.
+pub fn from_location(location: MemoryLocation, time: u32) -> Location {
     let memory = match location.memory_type {
         MemoryType::Stack => Memory::Stack,
         MemoryType::Code => Memory::Code,
@@ -167,7 +168,13 @@ pub fn from_location(location: MemoryLocation) -> Location {
         memory,
         page: location.page.0,
         index: location.index.0,
+        time,
     }
+}
+
+/// Where and when the Rust asks its memory.
+pub fn from_query(query: MemoryQuery) -> Location {
+    from_location(query.location, query.timestamp.0)
 }
 
 /// What the Rust's types cannot state: an enum has no such variant.

@@ -277,6 +277,7 @@ impl Writer {
         self.put(format_args!("{name}: kind"), number);
         self.put(format_args!("{name}: page"), location.map_or(0, |location| location.page));
         self.put(format_args!("{name}: index"), location.map_or(0, |location| location.index));
+        self.put(format_args!("{name}: time"), location.map_or(0, |location| location.time));
     }
 
     fn before_execute(&mut self, before: &BeforeExecute) {
@@ -284,6 +285,7 @@ impl Writer {
         self.put("code read: wanted", read.is_some());
         self.put("code read: page", read.map_or(0, |location| location.page));
         self.put("code read: index", read.map_or(0, |location| location.index));
+        self.put("code read: time", read.map_or(0, |location| location.time));
         let (answer, bits) = match before.fetch {
             Fetch::Code(bits) => (0u32, bits),
             Fetch::Exception => (1, 0),
@@ -317,7 +319,6 @@ impl Writer {
         let write = finished.write;
         self.put("write: made", write.is_some());
         self.location("write", write.map(|write| write.location));
-        self.put("write: time", write.map_or(0, |write| write.time));
         self.register("write: value", write.map(|write| write.value).unwrap_or_default());
         let event = match finished.event {
             Event::None => 0u32,

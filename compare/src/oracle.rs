@@ -65,9 +65,10 @@ pub struct Ran {
 }
 
 impl Ran {
-    /// The answer, which refusals 5 to 7 put outside the domain.
+    /// The answer, which refusals 5 to 7 put outside the domain. A time of a write that is too large is refused before them: operands forms it, the Rust after them.
     fn answer(self) -> Answer {
-        let left_out = self.left_out.map(|number| {
+        let is_of_operands = matches!(&self.outcome, Outcome::Panicked(place) if places::is_of_operands(place));
+        let left_out = self.left_out.filter(|_| !is_of_operands).map(|number| {
             Outcome::Outside(Some(Refusal {
                 number,
                 stage: places::EXECUTE,
@@ -227,14 +228,15 @@ fn are_fitting(case: &Case) -> bool {
         && (!state.pending_exception || plain.is_panic_return())
 }
 
-/// The memory queries of a cycle. The reads are where the stages say, at the state's time, and there are no others.
+/// The memory queries of a cycle. The source is read where the stages say, and there are no others.
 struct Queries {
     code_read: Option<MemoryQuery>,
+    source_read: Option<MemoryQuery>,
     write: Option<MemoryQuery>,
 }
 
 impl Queries {
-    fn of(machine: &Machine, case: &Case, source: Option<MemoryLocation>) -> Self {
+    fn of(machine: &Machine, source: Option<MemoryLocation>) -> Self {
         let all = machine.memory.queries();
         let find = |is_wanted: fn(&Query) -> bool| all.iter().copied().find(is_wanted).map(|query| query.query);
         let code_read = find(|query| query.is_fetch);
@@ -244,9 +246,16 @@ impl Queries {
         let made = [code_read, source_read, write].into_iter().flatten().count();
         assert_eq!(made, all.len(), "more memory queries than a cycle has");
         assert_eq!(source_read.map(|read| read.location), source, "the source read is elsewhere");
-        let mut reads = [code_read, source_read].into_iter().flatten();
-        assert!(reads.all(|read| read.timestamp.0 == case.state.timestamp), "a read at another time");
-        Self { code_read, write }
+        Self {
+            code_read,
+            source_read,
+            write,
+        }
+    }
+
+    /// Where no write is made there is no query, and "any other operation's write location carries 0".
+    fn write_time(&self) -> u32 {
+        self.write.map_or(0, |write| write.timestamp.0)
     }
 }
 
@@ -259,9 +268,9 @@ pub fn state_after(case: &Case, machine: &Machine) -> State {
 fn finished(case: &Case, machine: &Machine, recorder: &Recorder) -> Finished {
     let decoded = recorder.decoded.expect("decoding was traced");
     let operands = recorder.operands.expect("execution was traced");
-    let queries = Queries::of(machine, case, operands.source);
+    let queries = Queries::of(machine, operands.source);
     let before = BeforeExecute {
-        code_read: queries.code_read.map(|read| from_location(read.location)),
+        code_read: queries.code_read.map(from_query),
         fetch: match decoded.encoding {
             Encoding::Code(bits) => Fetch::Code(bits),
             Encoding::Exception => Fetch::Exception,
@@ -269,15 +278,14 @@ fn finished(case: &Case, machine: &Machine, recorder: &Recorder) -> Finished {
         },
         error_flags: decoded.error_flags,
         charge: case.state.current.0[place::ERGS] - operands.ergs_after_charge,
-        source: operands.source.map(from_location),
-        destination: recorder.destination.map(from_location),
+        source: queries.source_read.map(from_query),
+        destination: recorder.destination.map(|location| from_location(location, queries.write_time())),
     };
     Finished {
         state: state_after(case, machine),
         before: Some(before),
         write: queries.write.map(|write| Write {
-            location: from_location(write.location),
-            time: write.timestamp.0,
+            location: from_query(write),
             value: Register {
                 value: write.value.0,
                 is_pointer: write.value_is_pointer,

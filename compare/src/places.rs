@@ -48,7 +48,7 @@ const TABLE: [(&str, u32, &str, u32, u32); 13] = [
     ("opcodes/execution/ret.rs", 258, "ret_opcode_apply: ergs sum", 12, EXECUTE),
     ("opcodes/execution/ret.rs", 270, "ret_opcode_apply: heap bound", 13, EXECUTE),
     ("opcodes/execution/ret.rs", 271, "ret_opcode_apply: aux heap bound", 13, EXECUTE),
-    ("vm_state/mod.rs", 233, "timestamp_for_dst_write: the sum", 14, EXECUTE),
+    ("vm_state/mod.rs", 233, "timestamp_for_dst_write: the sum", 14, OPERANDS),
     ("vm_state/mod.rs", 236, "increment_timestamp_after_cycle: the sum", 14, EXECUTE),
     ("vm_state/cycle.rs", 470, "cycle: cycle counter's sum", 14, EXECUTE),
 ];
@@ -74,6 +74,11 @@ pub fn function_at(place: &Place) -> Option<String> {
         (is_word && !is_comment(line)).then_some(name)
     };
     lines.iter().rev().find_map(name)
+}
+
+/// Whether a panic at this place is a refusal by operands, though the Rust may come to it in execute: the time of a write.
+pub fn is_of_operands(place: &Place) -> bool {
+    refusal_at(place).is_some_and(|refusal| refusal.stage == OPERANDS)
 }
 
 /// What fails at this place.

@@ -90,6 +90,29 @@ fn stack_pointer() {
 }
 
 #[test]
+fn times_of_locations() {
+    let time = |location: Option<Location>| location.map(|location| location.time);
+    let edges = [
+        (operation::NOP, None, 0, None),
+        (operation::ADD, Some(8), 11, Some(11)),
+        (operation::SUB, Some(8), 11, Some(11)),
+        (operation::NEAR_CALL, Some(8), 0, None),
+        (operation::RETURN, Some(8), 0, None),
+    ];
+    for (operation, read, destination, write) in edges {
+        let mut case = calm::cycle(operation);
+        (case.state.timestamp, case.state.previous_code_page) = (8, 1);
+        let plain = &mut case.records.plain;
+        (plain.source_kind, plain.destination_kind) = (kind::PUSH_POP, kind::PUSH_POP);
+        let finished = finish(&case);
+        let before = before(&finished);
+        assert_eq!(time(before.code_read), Some(8));
+        assert_eq!((time(before.source), time(before.destination)), (read, Some(destination)));
+        assert_eq!(time(finished.write.map(|write| write.location)), write);
+    }
+}
+
+#[test]
 fn flags_of_add_and_sub() {
     let edges = [
         (operation::ADD, MOST, [1, 0, 0, 0], [0; 4], [true, true, false]),

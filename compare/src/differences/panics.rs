@@ -1,5 +1,6 @@
 //! Panics of the Rust that are refusals.
 
+use super::left_out::pointer;
 use super::row::*;
 use crate::case::*;
 use crate::cases::calm;
@@ -31,7 +32,7 @@ pub fn rows() -> Vec<Entry> {
         row("I7", ergs_sum, ret, refuses(12, EXECUTE)),
         row("I8", heap_bounds, ret, refuses(13, EXECUTE)),
         row("I9", stack_page, Panics(STACK, "stack_page_from_base"), refuses(14, OPERANDS)),
-        row("I10", write_time, Panics(STATE, "timestamp_for_dst_write"), refuses(14, EXECUTE)),
+        row("I10", write_time, Panics(STATE, "timestamp_for_dst_write"), refuses(14, OPERANDS)),
         row_with(Needs::TimeStep, "I11", time_after_the_cycle, time_after, refuses(14, EXECUTE)),
         row("I12", cycle_counter, Panics(CYCLE, "cycle"), refuses(14, EXECUTE)),
         row("I13", kept_destination, select_operands, refuses(3, DECODE)).by(RECORDS),
@@ -134,7 +135,13 @@ fn write_time() -> Vec<Case> {
             })
         })
     };
-    [operation::ADD, operation::SUB].map(to_memory).concat()
+    let mut cases = [operation::ADD, operation::SUB].map(to_memory).concat();
+    // operands refuses it before execute comes to refusal 6
+    cases.push(with(pointer(operation::ADD), |case| {
+        case.state.timestamp = u32::MAX - 2;
+        case.records.plain.destination_kind = kind::PUSH_POP;
+    }));
+    cases
 }
 
 fn time_after_the_cycle() -> Vec<Case> {

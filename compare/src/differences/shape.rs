@@ -22,6 +22,7 @@ pub fn rows() -> Vec<Entry> {
         no_case("I46", "what the Rust calls, the port answers: it is compared as such"),
         no_case("I47", "a case has the fields that both have"),
         row("I48", opening, Finishes, Port::Same).but_for("the cycle of opening"),
+        row("I49", unwritten, Finishes, Port::Same).but_for("the time of a place that is not written"),
     ]
 }
 
@@ -54,6 +55,17 @@ fn opening() -> Vec<Case> {
         case.state.saved[0].0[place::OPENING] = 3;
     });
     vec![call, back]
+}
+
+/// A place to write to, of operations that do not write.
+fn unwritten() -> Vec<Case> {
+    let of = |operation| {
+        with(calm::cycle(operation), |case| {
+            case.state.timestamp = 8;
+            case.records.plain.destination_kind = kind::PUSH_POP;
+        })
+    };
+    [operation::NOP, operation::NEAR_CALL, operation::RETURN].map(of).to_vec()
 }
 
 fn other_limit() -> Vec<Case> {
