@@ -165,7 +165,7 @@ impl Decoded {
 pub struct Operands {
     pub ergs_after_charge: u32,
     pub source: Option<MemoryLocation>,
-    /// Which of refusals 5 to 7 holds, if any: document 01 leaves these out of the domain.
+    /// Which of refusals 5 to 7 execute would give, if any: document 01 leaves these out of the domain.
     pub left_out: Option<u32>,
 }
 

@@ -60,15 +60,14 @@ impl Outcome {
 pub struct Ran {
     pub outcome: Outcome,
     pub kept: Option<Choice>,
-    /// Which of refusals 5 to 7 holds, if any, where the Rust came to the operation.
+    /// Which of refusals 5 to 7 is owed, if any, where the Rust came to the operation.
     pub left_out: Option<u32>,
 }
 
 impl Ran {
-    /// The answer, which refusals 5 to 7 put outside the domain. A time of a write that is too large is refused before them: operands forms it, the Rust after them.
+    /// The answer, which refusals 5 to 7 put outside the domain.
     fn answer(self) -> Answer {
-        let is_of_operands = matches!(&self.outcome, Outcome::Panicked(place) if places::is_of_operands(place));
-        let left_out = self.left_out.filter(|_| !is_of_operands).map(|number| {
+        let left_out = self.left_out.map(|number| {
             Outcome::Outside(Some(Refusal {
                 number,
                 stage: places::EXECUTE,
@@ -152,10 +151,13 @@ impl Oracle {
                 Outcome::Finished(Box::new(finished(case, &machine, &recorder)))
             }
         };
+        // the time of a write is refused by operands, before execute owes any of them
+        let is_of_operands = matches!(&outcome, Outcome::Panicked(place) if places::is_of_operands(place));
+        let left_out = recorder.operands.and_then(|operands| operands.left_out);
         Ran {
             outcome,
             kept: recorder.decoded.map(|decoded| kept(case, &decoded)),
-            left_out: recorder.operands.and_then(|operands| operands.left_out),
+            left_out: left_out.filter(|_| !is_of_operands),
         }
     }
 
@@ -269,6 +271,9 @@ fn finished(case: &Case, machine: &Machine, recorder: &Recorder) -> Finished {
     let decoded = recorder.decoded.expect("decoding was traced");
     let operands = recorder.operands.expect("execution was traced");
     let queries = Queries::of(machine, operands.source);
+    if let Some(write) = queries.write {
+        assert_eq!(Some(write.location), recorder.destination, "the write is elsewhere");
+    }
     let before = BeforeExecute {
         code_read: queries.code_read.map(from_query),
         fetch: match decoded.encoding {

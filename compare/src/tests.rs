@@ -113,6 +113,30 @@ fn times_of_locations() {
 }
 
 #[test]
+fn time_of_a_masked_write() {
+    let mut case = calm::cycle(operation::ADD);
+    case.records.plain.destination_kind = kind::PUSH_POP;
+    case.records.panic.destination_kind = kind::PUSH_POP;
+    (case.state.timestamp, case.records.plain.explicit_panic) = (8, true);
+    let finished = finish(&case);
+    assert_eq!(before(&finished).destination.map(|destination| destination.time), Some(0));
+    assert_eq!(finished.write, None);
+}
+
+/// The Rust clears a misplaced pointer's metadata and panics at the time of the write: operands refuses that, before execute would give 6.
+#[test]
+fn late_write_of_a_pointer() {
+    let mut case = calm::cycle(operation::ADD);
+    case.state.registers[0].is_pointer = true;
+    case.state.current.0[place::ADDRESSES] = 1;
+    case.records.plain.src0 = 1;
+    assert_eq!(refusal(&case), 6);
+    case.records.plain.destination_kind = kind::PUSH_POP;
+    case.state.timestamp = u32::MAX - 2;
+    assert_eq!(refusal(&case), 14);
+}
+
+#[test]
 fn flags_of_add_and_sub() {
     let edges = [
         (operation::ADD, MOST, [1, 0, 0, 0], [0; 4], [true, true, false]),

@@ -21,6 +21,7 @@ pub fn rows() -> Vec<Entry> {
     let start_frame = Panics(HELPERS, "start_frame");
     let select = Panics(HELPERS, "select_register_value");
     let select_operands = Panics(MEM_OPS, "compute_addresses_and_select_operands");
+    let write_time_of = Panics(STATE, "timestamp_for_dst_write");
     let time_after = Panics(STATE, "increment_timestamp_after_cycle");
     vec![
         row("I1", ended_and_pending, Panics(CYCLE, "read_and_decode"), refuses(4, FETCH)),
@@ -32,7 +33,7 @@ pub fn rows() -> Vec<Entry> {
         row("I7", ergs_sum, ret, refuses(12, EXECUTE)),
         row("I8", heap_bounds, ret, refuses(13, EXECUTE)),
         row("I9", stack_page, Panics(STACK, "stack_page_from_base"), refuses(14, OPERANDS)),
-        row("I10", write_time, Panics(STATE, "timestamp_for_dst_write"), refuses(14, OPERANDS)),
+        row("I10", write_time, write_time_of, refuses(14, OPERANDS)),
         row_with(Needs::TimeStep, "I11", time_after_the_cycle, time_after, refuses(14, EXECUTE)),
         row("I12", cycle_counter, Panics(CYCLE, "cycle"), refuses(14, EXECUTE)),
         row("I13", kept_destination, select_operands, refuses(3, DECODE)).by(RECORDS),
@@ -50,6 +51,7 @@ pub fn rows() -> Vec<Entry> {
         row("I29", far_return_page, Panics(STACK, "heap_page_from_base"), refuses(7, EXECUTE)).by(RET_ABI),
         row("I30", far_return_sums, finish_frame, refuses(7, EXECUTE)).by(RET_ABI),
         row("I31", pointer_and_counter, Panics(CYCLE, "cycle"), refuses(6, EXECUTE)),
+        row("I50", pointer_and_write_time, write_time_of, refuses(14, OPERANDS)).by("erase_fat_pointer_metadata"),
     ]
 }
 
@@ -135,13 +137,18 @@ fn write_time() -> Vec<Case> {
             })
         })
     };
-    let mut cases = [operation::ADD, operation::SUB].map(to_memory).concat();
-    // operands refuses it before execute comes to refusal 6
-    cases.push(with(pointer(operation::ADD), |case| {
-        case.state.timestamp = u32::MAX - 2;
-        case.records.plain.destination_kind = kind::PUSH_POP;
-    }));
-    cases
+    [operation::ADD, operation::SUB].map(to_memory).concat()
+}
+
+/// Operands refuses before execute would.
+fn pointer_and_write_time() -> Vec<Case> {
+    let to_memory = |operation| {
+        with(pointer(operation), |case| {
+            case.state.timestamp = u32::MAX - 2;
+            case.records.plain.destination_kind = kind::PUSH_POP;
+        })
+    };
+    [operation::ADD, operation::SUB].map(to_memory).to_vec()
 }
 
 fn time_after_the_cycle() -> Vec<Case> {

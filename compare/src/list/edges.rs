@@ -3,10 +3,11 @@
 use super::run::Run;
 use crate::case::*;
 use crate::oracle::BUILT_WITH;
+use crate::places::{Refusal, EXECUTE, OPERANDS};
 
 /// A sum, the refusal that looks at it, and how far it is past the last that fits.
 struct Edge {
-    refusal: u32,
+    refusal: Refusal,
     name: &'static str,
     past: i64,
 }
@@ -21,18 +22,30 @@ pub fn about(distance: i64) -> i64 {
 
 /// Where the case finished, all of its sums; where it was refused, the one that is past its last.
 pub fn of(run: &Run, record: &Record) -> Vec<String> {
-    let refusal = run.outcome.refusal().map(|refusal| refusal.number);
+    let refusal = run.outcome.refusal();
     let mut edges = times(run, record);
     edges.extend(pages(run, record));
     if let Some(caller) = run.case.state.saved.last().filter(|_| record.operation == operation::RETURN) {
         edges.extend(sums(run, record, caller));
     }
-    edges.retain(|edge| refusal.is_none_or(|number| number == edge.refusal && edge.past > 0));
+    edges.retain(|edge| refusal.is_none_or(|refusal| refusal == edge.refusal && edge.past > 0));
     let label = |edge: Edge| format!("{} {}", edge.name, about(edge.past));
     edges.into_iter().map(label).collect()
 }
 
-fn edge(refusal: u32, name: &'static str, past: i64) -> Edge {
+/// Of execute.
+fn edge(number: u32, name: &'static str, past: i64) -> Edge {
+    let stage = EXECUTE;
+    let refusal = Refusal { number, stage };
+    Edge { refusal, name, past }
+}
+
+/// Refusal 14 of operands.
+fn place_edge(name: &'static str, past: i64) -> Edge {
+    let refusal = Refusal {
+        number: 14,
+        stage: OPERANDS,
+    };
     Edge { refusal, name, past }
 }
 
@@ -45,7 +58,7 @@ fn times(run: &Run, record: &Record) -> Vec<Edge> {
     }
     let is_stored = record.destination_kind != kind::REGISTER;
     if is_stored && matches!(record.operation, operation::ADD | operation::SUB) {
-        edges.push(edge(14, "time of a write", time + 3 - LAST));
+        edges.push(place_edge("time of a write", time + 3 - LAST));
     }
     edges
 }
@@ -54,7 +67,7 @@ fn pages(run: &Run, record: &Record) -> Option<Edge> {
     let is_stack = |number| matches!(number, kind::PUSH_POP | kind::STACK_OFFSET | kind::ABSOLUTE_STACK);
     let is_used = is_stack(record.source_kind) || is_stack(record.destination_kind);
     let page = i64::from(run.current(place::BASE_PAGE)) + 1;
-    is_used.then(|| edge(14, "stack page", page - LAST))
+    is_used.then(|| place_edge("stack page", page - LAST))
 }
 
 fn sums(run: &Run, record: &Record, caller: &Row) -> Vec<Edge> {

@@ -43,7 +43,7 @@ write_time r time = cond (is_arithmetic r) (time + 3) 0
 abbrev pub lacks_write_time : Record → ℕ → Bool
 lacks_write_time r time = is_stack_kind r.destination_kind && nat_le (2 ^ 32) (write_time r time)
 
--- a source of this kind, read at this time, and sp after it
+-- a source of this kind, at this time, and sp after it
 unfoldable pub source_at : ℕ → ℕ → ℕ → ℕ → ℕ → ℕ → ℕ → Located
 source_at w kind stack_page code_page sp vaddr time = record {
   location =
@@ -55,7 +55,7 @@ source_at w kind stack_page code_page sp vaddr time = record {
   sp = cond (kind == 2) (wrapping_difference w sp vaddr) sp;
 }
 
--- a destination of this kind, to be written at this time, and sp after it
+-- a destination of this kind, at this time, and sp after it
 unfoldable pub destination_at : ℕ → ℕ → ℕ → ℕ → ℕ → ℕ → Located
 destination_at w kind stack_page sp vaddr time = record {
   location =
@@ -79,10 +79,9 @@ abbrev pub destination_of : ℕ → Record → List U256 → ℕ → ℕ → ℕ
 destination_of w r registers stack_page sp time =
     destination_at w r.destination_kind stack_page sp (vaddr_of w (register_of registers r.dst0) r.imm_1) time
 
--- the source's time is that of a read, the destination's that of a write
 unfoldable pub places_of : ℕ → Record → List U256 → ℕ → ℕ → ℕ → ℕ → ℕ → Places
-places_of w r registers stack_page code_page sp read_time write_time = record {
-  source = source_read (is_nop r) (source_of w r registers stack_page code_page sp read_time).location;
-  destination = (destination_of w r registers stack_page (source_of w r registers stack_page code_page sp read_time).sp write_time).location;
-  sp = (destination_of w r registers stack_page (source_of w r registers stack_page code_page sp read_time).sp write_time).sp;
+places_of w r registers stack_page code_page sp source_time destination_time = record {
+  source = source_read (is_nop r) (source_of w r registers stack_page code_page sp source_time).location;
+  destination = (destination_of w r registers stack_page (source_of w r registers stack_page code_page sp source_time).sp destination_time).location;
+  sp = (destination_of w r registers stack_page (source_of w r registers stack_page code_page sp source_time).sp destination_time).sp;
 }

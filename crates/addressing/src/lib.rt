@@ -14,7 +14,7 @@ pub enum MemoryType {
 }
 
 // No location, or a memory kind (1 stack, 2 code), an index, a page and a time. The narrow fields first, so that they fill 12 bytes: a hole slows each copy down, and
-// with 16 bytes a cycle takes half as long again. The paper names this form, and no `Option` of a struct; the kind is a number, since a state with any number has to
+// so do 16 bytes (docs/SPEED.md). The paper names this form, and no `Option` of a struct; the kind is a number, since a state with any number has to
 // be answered.
 #[derive(Clone, Copy)]
 pub enum Location {

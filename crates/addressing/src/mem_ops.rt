@@ -36,8 +36,8 @@ pub fn lacks_stack_page(r: Record, base: u32) -> bool
     is_stack_kind(r.source_kind) | is_stack_kind(r.destination_kind)
 }
 
-// Add and sub alone form the time of a write. Modulo 2^32: a sum that passes that is refused wherever the time is looked at.
-pub fn write_time(r: Record, time: u32) -> u32
+// Add and sub alone form the time of a write. Modulo 2^32: where a larger sum is looked at, operands has refused it.
+pub fn wrapping_write_time(r: Record, time: u32) -> u32
     ensures { result ≡ write_time r time % 2 ^ 32 }
 {
     if checks::is_arithmetic(r) {
@@ -52,10 +52,10 @@ pub fn lacks_write_time(r: Record, time: u32) -> bool
     ensures { result ≡ lacks_write_time r time }
 {
     // The time first: it decides for every record but at the last three times.
-    if time < 0xffff_fffd {
-        return false;
+    if 0xffff_fffc < time {
+        return checks::is_arithmetic(r) & is_stack_kind(r.destination_kind);
     }
-    checks::is_arithmetic(r) & is_stack_kind(r.destination_kind)
+    false
 }
 
 fn at(memory_type: MemoryType, page: u32, index: u16, time: u32) -> Location
@@ -151,7 +151,7 @@ fn memory_vaddr(kind: u8, registers: [U256; 15], n: u8, imm: u16) -> u16
     vaddr(registers::select(registers, n), imm)
 }
 
-// Source first, then destination on the changed sp; the source is read at one time and the destination written at another.
+// Source first, then destination on the changed sp; each at its time.
 #[tactic(auto, unfolding(crate::specs::Address::places_of, crate::specs::Address::source_at, crate::specs::Address::destination_at))]
 pub fn places(
     r: Record,
@@ -159,16 +159,16 @@ pub fn places(
     stack_page: u32,
     code_page: u32,
     sp: u16,
-    read_time: u32,
-    write_time: u32,
+    source_time: u32,
+    destination_time: u32,
 ) -> Places
-    ensures { result ≡ places_of 16 r registers stack_page code_page sp read_time write_time }
+    ensures { result ≡ places_of 16 r registers stack_page code_page sp source_time destination_time }
 {
     let read = memory_vaddr(r.source_kind, registers, r.src0, r.imm_0);
-    let source = source_at(r.source_kind, stack_page, code_page, sp, read, read_time);
     let written = memory_vaddr(r.destination_kind, registers, r.dst0, r.imm_1);
+    let source = source_at(r.source_kind, stack_page, code_page, sp, read, source_time);
     let kind = r.destination_kind;
-    let destination = destination_at(kind, stack_page, source.sp, written, write_time);
+    let destination = destination_at(kind, stack_page, source.sp, written, destination_time);
     let from = source.location;
     let to = destination.location;
     Places {

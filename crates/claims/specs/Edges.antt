@@ -1,4 +1,5 @@
--- The edges that document 01 marks P, in its words and order, each computed by the definitions that the stages are proved equal to.
+-- The edges that document 01 marks P, in its words and order, and then the times of document 02's CR 1, each computed by the definitions that the stages are proved
+-- equal to.
 use Rattle.std.specs.Prelude.{ℕ, ◌-◌, ◌^◌, true, false, ◌≡◌, List, [], ◌∷◌, ◌++◌, Option, None, Some, Result, Ok, Err, replicate}
 use mir.Val.{bool_byte}
 use Rattle.u256.specs.U256.{empty_word, value_of, words_of, one_word}
@@ -19,12 +20,16 @@ use Rattle.stages.specs.declared.OperandsAnswer.{OperandsAnswer}
 use Rattle.stages.specs.declared.Event.{Event}
 use Rattle.stages.specs.declared.ExecuteAnswer.{ExecuteAnswer}
 use Rattle.stages.specs.State.{at_fetch, at_decode, at_operands, at_execute}
-use Rattle.stages.specs.Effects.{moved_state, no_record}
+use Rattle.stages.specs.Effects.{finished_state, moved_state, no_record}
 use Rattle.stages.specs.Fetch.{query_of, fetch_of}
 use Rattle.stages.specs.Decode.{decode_of}
 use Rattle.stages.specs.Operands.{operands_of}
 use Rattle.stages.specs.Execute.{execute_of, execute_store}
-use Rattle.stages.specs.Answers.{location_case, fetch_case}
+use Rattle.stages.specs.Answers.{location_case, write_case, fetch_case}
+use Rattle.cycle.specs.declared.Input.{Input}
+use Rattle.cycle.specs.declared.CycleAnswer.{CycleAnswer}
+use Rattle.cycle.specs.declared.CycleRefusal.{CycleRefusal}
+use Rattle.cycle.specs.Cycle.{cycle_of}
 use Rattle.start.specs.Start.{records_of, state_at, settings_of, empty_store}
 
 pub record Edge : Type 0 where
@@ -118,6 +123,28 @@ steps pc =
     at : ℕ → State
     at stage = moved_state (state_at stage (replicate 15 empty_word) 0 0 no_record) pc
 
+-- a whole cycle of an operation (1 add, 3 near call) with a pop of 1 and a push of 2, at time 8, sp 10 and pc 65,535: the code read, the source and the destination,
+-- each with its time, and the write
+abbrev times : Result CycleAnswer CycleRefusal → List ℕ
+times (Ok answer) =
+    location_case answer.read
+    ++ (location_case answer.operands.source ++ (location_case answer.operands.destination ++ write_case answer.execute.write))
+times (Err refused) = paper_number refused.refusal ∷ []
+
+abbrev pub timed : ℕ → List ℕ
+timed operation = times (cycle_of input s (empty_store 4)).answer
+  where
+    s : State
+    s = moved_state (finished_state (state_at at_fetch (replicate 15 empty_word) 0 10 no_record) 8 0) 65535
+
+    input : Input
+    input = record {
+      code = empty_word;
+      execute = no_input;
+      settings = settings_of 4 1;
+      records = records_of (instruction operation 0 (placed 2 2 1 2) 0 false);
+    }
+
 abbrev pub edges : List Edge
 edges =
     -- "ergs 100: price 100 leaves 0, no flag; price 101 leaves 0, panic, charge 100"
@@ -144,6 +171,13 @@ edges =
     ∷ record { computed = combines 2 5 5; stated = 0 ∷ 0 ∷ 1 ∷ 0 ∷ [] }
     -- "pc 65,535: super 16,383, sub 3, next 0"
     ∷ record { computed = steps 65535; stated = 1 ∷ 2 ∷ 0 ∷ 16383 ∷ 0 ∷ 0 ∷ 3 ∷ 0 ∷ [] }
+    -- "the state's time for a read, 3 more for a write"; "Execute's write carries the kept time"
+    ∷ record {
+      computed = timed 1;
+      stated = 1 ∷ 2 ∷ 0 ∷ 16383 ∷ 8 ∷ 1 ∷ 1 ∷ 1 ∷ 9 ∷ 8 ∷ 1 ∷ 1 ∷ 1 ∷ 9 ∷ 11 ∷ 1 ∷ 1 ∷ 1 ∷ 9 ∷ 11 ∷ 0 ∷ 0 ∷ [];
+    }
+    -- "any other operation's write location carries 0"
+    ∷ record { computed = timed 3; stated = 1 ∷ 2 ∷ 0 ∷ 16383 ∷ 8 ∷ 1 ∷ 1 ∷ 1 ∷ 9 ∷ 8 ∷ 1 ∷ 1 ∷ 1 ∷ 9 ∷ 0 ∷ 0 ∷ [] }
     ∷ []
 
 -- every line of the table holds

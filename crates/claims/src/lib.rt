@@ -52,7 +52,7 @@ pub fn code_unread()
     ensures { CodeUnread }
 {}
 
-// What execute writes is at the place and time that operands answered.
+// What execute writes is at the place and time that operands answered; operations other than add and sub write nothing.
 pub fn writes_where_answered()
     ensures { WritesWhereAnswered }
 {}

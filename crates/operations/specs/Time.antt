@@ -1,5 +1,5 @@
 -- pc and time after a cycle. Document 01: "Next pc is pc plus 1 modulo 65,536, unless ended"; refusal 14, "time after the cycle, cycle counter; above 32 bits". The
--- time stays when execution has ended. "A write carries time plus 3": stages/specs/Helpers.antt.
+-- time stays when execution has ended. The time of a write is in addressing/specs/Address.antt.
 use Rattle.std.specs.Prelude.{ℕ, ◌+◌, ◌^◌, Bool, cond, not, ◌&&◌, ◌||◌, nat_le}
 use Rattle.u256.specs.Word.{wrapping_sum}
 

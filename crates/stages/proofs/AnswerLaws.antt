@@ -16,8 +16,8 @@ use Rattle.stages.specs.declared.Staged.{Staged}
 use Rattle.stages.specs.declared.ExecuteInput.{ExecuteInput}
 use Rattle.stages.specs.declared.ExecuteAnswer.{ExecuteAnswer}
 use Rattle.stages.specs.State.{record_of, refused_with, settled}
-use Rattle.stages.specs.Checks.{is_stored, sources_in, top_frame, execute_checks}
-use Rattle.stages.specs.Helpers.{write_of, nop_done}
+use Rattle.stages.specs.Checks.{sources_in, top_frame, execute_checks}
+use Rattle.stages.specs.Helpers.{is_stored, write_of, nop_done}
 use Rattle.stages.specs.Arithmetic.{result_in, arithmetic_done}
 use Rattle.stages.specs.NearCall.{near_call_done}
 use Rattle.stages.specs.Ret.{close_done}

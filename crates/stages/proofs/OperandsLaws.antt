@@ -14,7 +14,7 @@ use Rattle.stages.specs.declared.State.{State}
 use Rattle.stages.specs.declared.Staged.{Staged}
 use Rattle.stages.specs.declared.OperandsAnswer.{OperandsAnswer}
 use Rattle.stages.specs.State.{at_operands, record_of, bad_store, out_of_turn}
-use Rattle.stages.specs.Checks.{lacks_place, operands_checks}
+use Rattle.stages.specs.Checks.{lacks_page_or_time, operands_checks}
 use Rattle.stages.specs.Operands.{places_in, operands_refusal, addressed_state, operands_done, operands_of}
 use Rattle.stages.specs.Answers.{location_case, operands_case}
 use Rattle.stages.specs.Tells.{source_tells, destination_tells, operands_tells}
@@ -34,7 +34,7 @@ places_told w s = grind arith
 
 -- no check holds: the answer is that of these places
 pub answered : (settings : Settings) (s : State) (store : List ℕ) (sizes : Bool) → sizes ≡ bad_store settings s store
-    → (turn : Bool) → turn ≡ out_of_turn at_operands s → (good : Bool) → good ≡ good_record (record_of s) → (lacking : Bool) → lacking ≡ lacks_place s
+    → (turn : Bool) → turn ≡ out_of_turn at_operands s → (good : Bool) → good ≡ good_record (record_of s) → (lacking : Bool) → lacking ≡ lacks_page_or_time s
     → (sizes || turn || not good || lacking) ≡ false
     → (places : Places) → places ≡ places_in 16 s → (next : State) → next ≡ addressed_state s places.sp places.destination
     → (record { state = next; answer = Ok (record { source = places.source; destination = places.destination }) } ≡ operands_of 16 settings s store)
@@ -50,7 +50,7 @@ answered settings s store sizes ez turn eu good eg lacking el z places ep next e
 
 -- some check holds, and q is the refusal of the first
 pub refused : (settings : Settings) (s : State) (store : List ℕ) (sizes : Bool) → sizes ≡ bad_store settings s store
-    → (turn : Bool) → turn ≡ out_of_turn at_operands s → (good : Bool) → good ≡ good_record (record_of s) → (lacking : Bool) → lacking ≡ lacks_place s
+    → (turn : Bool) → turn ≡ out_of_turn at_operands s → (good : Bool) → good ≡ good_record (record_of s) → (lacking : Bool) → lacking ≡ lacks_page_or_time s
     → (sizes || turn || not good || lacking) ≡ true
     → (q : Refusal) → q ≡ cond sizes Refusal.Sizes (cond turn Refusal.Turn (cond (not good) Refusal.Record Refusal.Above32Bits))
     → (r : Staged OperandsAnswer) → r ≡ record { state = s; answer = Err q }

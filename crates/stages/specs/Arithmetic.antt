@@ -9,8 +9,7 @@ use Rattle.stages.specs.declared.Staged.{Staged}
 use Rattle.stages.specs.declared.ExecuteAnswer.{ExecuteAnswer}
 use Rattle.stages.specs.State.{is_ended, record_of}
 use Rattle.stages.specs.Effects.{moved_state, written_state}
-use Rattle.stages.specs.Checks.{is_stored}
-use Rattle.stages.specs.Helpers.{finished_in, write_of}
+use Rattle.stages.specs.Helpers.{finished_in, is_stored, write_of}
 
 abbrev pub result_in : U256 → U256 → State → U256 × Bool
 result_in a b s = result_of (record_of s).operation a b

@@ -2,7 +2,7 @@
 -- that holds decides. 15 is the tally's. Of every stage: 1, "limit 0 or above the store's whole rows, or depth above limit", and 2, "stage out of turn"; of all but fetch
 -- 3, whose words are in records/specs/Record.antt. w is the width of sp, pc, handler and immediates, 16 in the production encoding, here and in the definitions of the
 -- stages.
-use Rattle.std.specs.Prelude.{ℕ, ◌-◌, Bool, true, false, not, ◌&&◌, ◌||◌, List, [], ◌∷◌, ◌==◌}
+use Rattle.std.specs.Prelude.{ℕ, ◌-◌, Bool, not, ◌&&◌, ◌||◌, List, [], ◌∷◌, ◌==◌}
 use Rattle.refusal.specs.Refusal.{Check, ◌refuses◌}
 use Rattle.frame.specs.declared.Frame.{Frame}
 use Rattle.frame.specs.Kernel.{kernel_mode}
@@ -13,7 +13,6 @@ use Rattle.records.specs.declared.Records.{Records}
 use Rattle.records.specs.Record.{good_record, is_near_call, is_return, is_other, is_return_ok, bad_records}
 use Rattle.decoding.specs.declared.ErrorFlags.{ErrorFlags}
 use Rattle.decoding.specs.Charge.{error_flags, any_error}
-use Rattle.addressing.specs.declared.Location.{Location}
 use Rattle.addressing.specs.declared.Sources.{Sources}
 use Rattle.addressing.specs.Address.{lacks_stack_page, lacks_write_time}
 use Rattle.addressing.specs.Sources.{sources_of, pointer_refused}
@@ -42,9 +41,9 @@ decode_checks settings records s store =
     ∷ []
 
 -- ---- operands
--- "operands: page of a stack kind", and, of document 02's CR 1, the time of a write: "Its part of refusal 14 moves from execute to operands."
-abbrev pub lacks_place : State → Bool
-lacks_place s = lacks_stack_page (record_of s) s.current.base_memory_page || lacks_write_time (record_of s) s.timestamp
+-- "page of a stack kind", and the "time of a memory write", of which document 02, CR 1, says: "Its part of refusal 14 moves from execute to operands."
+abbrev pub lacks_page_or_time : State → Bool
+lacks_page_or_time s = lacks_stack_page (record_of s) s.current.base_memory_page || lacks_write_time (record_of s) s.timestamp
 
 -- "On later stages 3 is about the kept record." 14 is "above 32 bits".
 abbrev pub operands_checks : Settings → State → List ℕ → List Check
@@ -52,7 +51,7 @@ operands_checks settings s store =
     (bad_store settings s store refuses 1)
     ∷ (out_of_turn at_operands s refuses 2)
     ∷ (not (good_record (record_of s)) refuses 3)
-    ∷ (lacks_place s refuses 14)
+    ∷ (lacks_page_or_time s refuses 14)
     ∷ []
 
 -- ---- execute
@@ -69,11 +68,6 @@ bad_pubdata s caller = is_outside (pubdata_after (is_return_ok (record_of s)) ca
 
 abbrev pub bad_reverts : State → Bool
 bad_reverts s = is_bad_counter (counter_after (is_return_ok (record_of s)) s.pubdata_revert_counter.0 s.current.total_pubdata_spent.0)
-
--- whether a write location is kept
-abbrev pub is_stored : Location → Bool
-is_stored Location.None = false
-is_stored (Location.At kind index page time) = true
 
 -- "time after the cycle, cycle counter"
 abbrev pub late_in : Settings → State → Bool

@@ -1,6 +1,6 @@
 -- Fetch. Document 01: "A query says whether a code read is wanted, and from which page and index: page or super pc changed, and not ended. It reads the state alone
 -- and never refuses. Fetch takes that word, not looked at when none was wanted." "The answer is 64 bits of code, or exception (pending), or nop (ended)." The query's
--- location carries "the state's time for a read", as document 02's CR 1 has it of operands.
+-- location carries the state's time, as that of any read does by document 02's CR 1 (D80).
 use Rattle.std.specs.Prelude.{ℕ, Bool, cond, not, ◌&&◌, List, Option, Ok, unwrap_or}
 use Rattle.std.specs.Bool.{then_some}
 use Rattle.u256.specs.declared.U256.{U256}

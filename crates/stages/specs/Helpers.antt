@@ -1,6 +1,6 @@
 -- What the operations of execute share, and nop. Document 01: "Nop sets pc only (from the specification)". Document 02, CR 1: "Execute's write carries the
 -- kept time."
-use Rattle.std.specs.Prelude.{ℕ, ◌+◌, Option, None, Some, Ok}
+use Rattle.std.specs.Prelude.{ℕ, ◌+◌, Bool, true, false, Option, None, Some, Ok}
 use Rattle.records.specs.declared.Settings.{Settings}
 use Rattle.addressing.specs.declared.Location.{Location}
 use Rattle.addressing.specs.declared.PrimitiveValue.{PrimitiveValue}
@@ -15,6 +15,11 @@ use Rattle.stages.specs.Effects.{finished_state, moved_state}
 -- the state with the time and the cycle counter after the cycle, ready for the next
 abbrev pub finished_in : Settings → State → State
 finished_in settings s = finished_state s (time_after s.timestamp settings.time_step (is_ended s)) (s.monotonic_cycle_counter + 1)
+
+-- whether a location is kept
+abbrev pub is_stored : Location → Bool
+is_stored Location.None = false
+is_stored (Location.At kind index page time) = true
 
 abbrev pub write_of : Location → PrimitiveValue → Option Write
 write_of Location.None value = None

@@ -1,4 +1,5 @@
--- What the query and the stages are to tell, in the numbers of Answers.antt, each by document 01's rule; a refusal tells nothing.
+-- What the query and the stages are to tell, in the numbers of Answers.antt, each by the rule of document 01 or, of the times, of document 02's
+-- CR 1; a refusal tells nothing.
 use Rattle.std.specs.Prelude.{ℕ, ◌+◌, min, cond, not, ◌&&◌, ◌||◌, List, [], ◌∷◌, ◌++◌, ◌==◌, nat_lt}
 use mir.Val.{bool_byte}
 use Rattle.u256.specs.declared.U256.{U256}
@@ -14,7 +15,8 @@ use Rattle.addressing.specs.Address.{vaddr_of}
 use Rattle.stages.specs.declared.State.{State}
 use Rattle.stages.specs.declared.ExecuteInput.{ExecuteInput}
 use Rattle.stages.specs.State.{is_ended, record_of}
-use Rattle.stages.specs.Checks.{is_stored, sources_in}
+use Rattle.stages.specs.Checks.{sources_in}
+use Rattle.stages.specs.Helpers.{is_stored}
 use Rattle.stages.specs.Fetch.{code_wanted, code_word, fetch_refusal}
 use Rattle.stages.specs.Decode.{price_in, decode_refusal}
 use Rattle.stages.specs.Operands.{stack_page, operands_refusal}
@@ -23,7 +25,7 @@ use Rattle.stages.specs.Execute.{execute_refusal}
 use Rattle.stages.specs.Answers.{location_case}
 
 -- ---- what the query, fetch and decode are to tell
--- "whether a code read is wanted, and from which page and index", and "the state's time"
+-- "whether a code read is wanted, and from which page and index"; its time is that of any read (D80)
 abbrev pub query_tells : State → List ℕ
 query_tells s = cond (code_wanted s) (1 ∷ 2 ∷ s.current.code_page ∷ super_pc s.current.pc ∷ s.timestamp ∷ []) (0 ∷ [])
 
@@ -68,22 +70,22 @@ source_tells w s =
     (cond ((record_of s).source_kind == 4) (1 ∷ 2 ∷ s.current.code_page ∷ source_vaddr w s ∷ s.timestamp ∷ [])
     (cond ((record_of s).source_kind == 5) (1 ∷ 1 ∷ stack_page s ∷ source_vaddr w s ∷ s.timestamp ∷ []) (0 ∷ []))))
 
--- "3 more for a write", "only for add and sub; any other operation's write location carries 0"
-abbrev pub time_of_write : State → ℕ
-time_of_write s = cond (is_arithmetic (record_of s)) (s.timestamp + 3) 0
+-- "3 more for a write", formed "only for add and sub; any other operation's write location carries 0"
+abbrev pub destination_time : State → ℕ
+destination_time s = cond (is_arithmetic (record_of s)) (s.timestamp + 3) 0
 
 -- "destination on the changed sp": a push "writes at the old sp", the others as a source
 abbrev pub destination_tells : ℕ → State → List ℕ
 destination_tells w s =
-    cond ((record_of s).destination_kind == 2) (1 ∷ 1 ∷ stack_page s ∷ sp_after_source w s ∷ time_of_write s ∷ [])
-    (cond ((record_of s).destination_kind == 3) (1 ∷ 1 ∷ stack_page s ∷ wrapping_difference w (sp_after_source w s) (destination_vaddr w s) ∷ time_of_write s ∷ [])
-    (cond ((record_of s).destination_kind == 5) (1 ∷ 1 ∷ stack_page s ∷ destination_vaddr w s ∷ time_of_write s ∷ []) (0 ∷ [])))
+    cond ((record_of s).destination_kind == 2) (1 ∷ 1 ∷ stack_page s ∷ sp_after_source w s ∷ destination_time s ∷ [])
+    (cond ((record_of s).destination_kind == 3) (1 ∷ 1 ∷ stack_page s ∷ wrapping_difference w (sp_after_source w s) (destination_vaddr w s) ∷ destination_time s ∷ [])
+    (cond ((record_of s).destination_kind == 5) (1 ∷ 1 ∷ stack_page s ∷ destination_vaddr w s ∷ destination_time s ∷ []) (0 ∷ [])))
 
 abbrev pub operands_tells : ℕ → Settings → State → List ℕ → List (List ℕ)
 operands_tells w settings s store = cond (operands_refusal settings s store == 0) (source_tells w s ∷ destination_tells w s ∷ []) []
 
 -- ---- what execute is to tell
--- add and sub write their result where and when a location is kept says, with the pointer bit off
+-- where a location is kept add and sub write their result there, at its time, with the pointer bit off
 abbrev pub write_tells : ExecuteInput → State → List ℕ
 write_tells input s =
     cond (is_arithmetic (record_of s) && is_stored s.kept.write)

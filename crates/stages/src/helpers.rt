@@ -3,8 +3,8 @@ ghost use Rattle.std.specs.Prelude.{◌≡◌, ◌+◌, ◌^◌, ◌<◌, false}
 ghost use Rattle.operations.specs.Time.{time_after};
 ghost use Rattle.stages.specs.State.{stage_number, is_ended, bad_store, out_of_turn};
 ghost use Rattle.stages.specs.Effects.{no_flags, finished_state, moved_state, written_state, switched_state};
-ghost use Rattle.stages.specs.Checks.{late_in, is_stored};
-ghost use Rattle.stages.specs.Helpers.{finished_in, write_of};
+ghost use Rattle.stages.specs.Checks.{late_in};
+ghost use Rattle.stages.specs.Helpers.{finished_in, is_stored, write_of};
 ghost use Rattle.stages.specs.ByOperation.{nop_of};
 
 use crate::{ExecuteAnswer, Executed, Kept, Stage, Staged, State, Write};

@@ -1,6 +1,6 @@
 // Operands, from the Rust's `compute_addresses_and_select_operands`.
 ghost use Rattle.std.specs.Prelude.{◌≡◌, false};
-ghost use Rattle.stages.specs.Checks.{lacks_place};
+ghost use Rattle.stages.specs.Checks.{lacks_page_or_time};
 ghost use Rattle.stages.specs.Operands.{places_in, addressed_state, operands_refusal, operands_of};
 ghost use Rattle.refusal.specs.Refusal.{refusal_number};
 ghost use Rattle.stages.specs.Answers.{operands_case};
@@ -27,8 +27,8 @@ impl State {
     }
 
     // Refusal 14 of operands.
-    fn lacks_place(self) -> bool
-        ensures { result ≡ lacks_place self }
+    fn lacks_page_or_time(self) -> bool
+        ensures { result ≡ lacks_page_or_time self }
     {
         let kept = self.kept;
         let instruction = kept.instruction;
@@ -39,7 +39,7 @@ impl State {
     // Operands has tested that what is looked at of the stack page and of a write's time has 32 bits (D62).
     #[tactic(auto, using(crate::proofs::OperandsLaws::places_exact))]
     fn places(self) -> Places
-        requires { lacks_place self ≡ false }
+        requires { lacks_page_or_time self ≡ false }
         ensures { result ≡ places_in 16 self }
     {
         let kept = self.kept;
@@ -52,7 +52,7 @@ impl State {
             self.current.code_page,
             self.current.sp,
             self.timestamp,
-            mem_ops::write_time(instruction, self.timestamp),
+            mem_ops::wrapping_write_time(instruction, self.timestamp),
         )
     }
 
@@ -65,7 +65,7 @@ impl State {
         let instruction = kept.instruction;
         let sizes = self.has_bad_store(settings, store);
         let bad = !checks::good_record(instruction);
-        let lacking = self.lacks_place();
+        let lacking = self.lacks_page_or_time();
         let turn = self.is_out_of_turn(Stage::Operands);
         // One branch, and the list inside it (D62), as in decode.
         if sizes | turn | bad | lacking {

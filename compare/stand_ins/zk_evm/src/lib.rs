@@ -15,5 +15,5 @@ include!(concat!(env!("OUT_DIR"), "/sources.rs"));
 /// The folder that the sources were taken from.
 pub const FOLDER: &str = env!("ERA_ZK_EVM_FOLDER");
 
-/// Reached by refusal 6 alone, which is outside the domain.
+/// Reached where refusal 6 is owed, which is outside the domain, or would be if the time of the write were not refused before.
 fn erase_fat_pointer_metadata(_: &mut U256) {}
