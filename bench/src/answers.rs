@@ -86,8 +86,8 @@ fn row(f: &CallStackEntry) -> Vec<u64> {
 struct Noted {
     code: U256,
     source: PrimitiveValue,
-    code_read: [u64; 3],
-    source_read: [u64; 3],
+    code_read: [u64; 4],
+    source_read: [u64; 4],
     written: [u64; 10],
 }
 
@@ -99,13 +99,13 @@ fn kind(location: MemoryLocation) -> u64 {
 }
 
 impl Memory for Noted {
-    fn read_code(&mut self, _: u32, at: MemoryLocation) -> U256 {
-        self.code_read = [1, at.page as u64, at.index as u64];
+    fn read_code(&mut self, time: u32, at: MemoryLocation) -> U256 {
+        self.code_read = [1, at.page as u64, at.index as u64, time as u64];
         self.code
     }
 
-    fn read(&mut self, _: u32, at: MemoryLocation) -> PrimitiveValue {
-        self.source_read = [kind(at), at.page as u64, at.index as u64];
+    fn read(&mut self, time: u32, at: MemoryLocation) -> PrimitiveValue {
+        self.source_read = [kind(at), at.page as u64, at.index as u64, time as u64];
         self.source
     }
 
@@ -193,10 +193,10 @@ fn cycled<P: Program, const BY_VALUE: bool>(case: &[u64]) -> Vec<u64> {
 
 /// The same of a line of answers; after the machine come code read, fetch, decode, operands, write and event.
 fn answered(result: &[u64]) -> Vec<u64> {
-    let (machine, rest) = result.split_at(result.len() - 24);
+    let (machine, rest) = result.split_at(result.len() - 27);
     let (state, rows) = machine.split_at(BEFORE_ROWS);
     let rows: Vec<u64> = rows.chunks(ROW).flat_map(|row| row[..KNOWN].to_vec()).collect();
-    [state, &rows, &rest[0..3], &rest[6..7], &rest[7..10], &rest[13..23]].concat()
+    [state, &rows, &rest[0..4], &rest[7..8], &rest[8..12], &rest[16..26]].concat()
 }
 
 /// Whether the types here can state a case: no operation but these five, every row good.
