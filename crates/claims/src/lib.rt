@@ -57,7 +57,7 @@ pub fn writes_where_answered()
     ensures { WritesWhereAnswered }
 {}
 
-// The edges that document 01 marks P.
+// The edges that document 01 marks P, and the times of two cycles.
 pub fn edges_hold()
     ensures { AllHold edges }
 {}

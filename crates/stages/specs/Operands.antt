@@ -1,6 +1,6 @@
 -- Operands. Document 01: "Source first, then destination on the changed sp." "Stack page is base plus 1. Nop reads nothing but moves sp." The answer is the
--- location of the source and that of the destination. Document 02, CR 1: a "location now carries its time: the state's time for a read, 3 more for a write", and 0 where
--- the operation writes nothing.
+-- location of the source and that of the destination. Document 02, CR 1: a "location now carries its time: the state's time for a read, 3 more for a write", and 0 at a
+-- destination to which nothing is written.
 use Rattle.std.specs.Prelude.{ℕ, ◌+◌, List, Ok}
 use Rattle.refusal.specs.Refusal.{first_of}
 use Rattle.frame.specs.Fields.{with_sp}

@@ -61,8 +61,8 @@ destination_vaddr w s = vaddr_of w (register_of s.registers (record_of s).dst0) 
 abbrev pub sp_after_source : ℕ → State → ℕ
 sp_after_source w s = cond ((record_of s).source_kind == 2) (wrapping_difference w s.current.sp (source_vaddr w s)) s.current.sp
 
--- "Nop reads nothing". Kinds 2 push/pop and 3 stack offset lie at sp minus vaddr, 4 code page and 5 absolute stack at vaddr. Its time
--- is "the state's time for a read".
+-- "Nop reads nothing". Kinds 2 push/pop and 3 stack offset lie at sp minus vaddr, 4 code page and 5 absolute stack at vaddr. A source's
+-- time is "the state's time for a read".
 abbrev pub source_tells : ℕ → State → List ℕ
 source_tells w s =
     cond (is_nop (record_of s)) (0 ∷ [])

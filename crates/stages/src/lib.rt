@@ -76,7 +76,7 @@ pub struct OperandsAnswer {
     pub destination: Location,
 }
 
-// What is to be written to memory, where and when: as the state's location has it.
+// What is to be written to memory, where and when: as the kept location has it.
 #[derive(Clone, Copy)]
 pub struct Write {
     pub memory_type: u8,
