@@ -23,6 +23,7 @@ pub fn rows() -> Vec<Entry> {
         no_case("I47", "a case has the fields that both have"),
         row("I48", opening, Finishes, Port::Same).but_for("the cycle of opening"),
         row("I49", unwritten, Finishes, Port::Same).but_for("the time of a place that is not written"),
+        no_case("I51", "execute alone is run from a state that keeps no location"),
     ]
 }
 
