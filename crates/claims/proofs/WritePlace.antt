@@ -1,5 +1,5 @@
 -- What execute writes is where and when operands answered. Assumes nothing.
-use Rattle.std.proofs.Common.{◌≡◌, ℕ, Bool, true, false, cond, List, refl, sym, ap, ◌∙◌, arith}
+use Rattle.std.proofs.Common.{◌≡◌, ℕ, Bool, true, false, List, refl, sym, ap, ◌∙◌, arith}
 use Rattle.std.specs.Prelude.{Result, Ok, Err}
 use Rattle.refusal.specs.declared.Refusal.{Refusal}
 use Rattle.records.specs.declared.Settings.{Settings}
@@ -11,15 +11,14 @@ use Rattle.stages.specs.declared.ExecuteInput.{ExecuteInput}
 use Rattle.stages.specs.declared.OperandsAnswer.{OperandsAnswer}
 use Rattle.stages.specs.declared.ExecuteAnswer.{ExecuteAnswer}
 use Rattle.stages.specs.State.{record_of, refused_with}
-use Rattle.stages.specs.Checks.{sources_in, top_frame}
 use Rattle.stages.specs.Helpers.{write_of, nop_done}
 use Rattle.stages.specs.Arithmetic.{arithmetic_done}
 use Rattle.stages.specs.NearCall.{near_call_done}
 use Rattle.stages.specs.Ret.{close_done}
 use Rattle.stages.specs.Operands.{operands_refusal, addressed_state, operands_done, operands_of}
-use Rattle.stages.specs.Execute.{want_in, execute_refusal, execute_done, execute_of}
+use Rattle.stages.specs.Execute.{execute_refusal, execute_done, execute_of}
 use Rattle.stages.specs.Answers.{place_of}
-use Rattle.claims.specs.WritePlace.{WritesWhereAnswered}
+use Rattle.claims.specs.WritePlace.{place_written, WritesWhereAnswered}
 use Rattle.claims.proofs.Views.{by_number}
 
 -- where a write is made, and where a destination is
@@ -37,28 +36,24 @@ kept_place (Location.At kind index page time) value = refl
 
 -- a call that is not refused writes at the kept location
 at_kept : (settings : Settings) (s : State) (store : List ℕ) (input : ExecuteInput)
-    → written (execute_done 16 settings input s store).answer ≡ cond (is_arithmetic (record_of s)) s.kept.write Location.None
+    → written (execute_done 16 settings input s store).answer ≡ place_written s s.kept.write
 unfolding execute_done nop_done arithmetic_done near_call_done close_done
-at_kept settings s store input =
-    by_test (is_nop (record_of s)) (is_arithmetic (record_of s)) (is_near_call (record_of s)) (λ e. grind arith)
+at_kept settings s store input = by_test _ _ _ refl refl refl
   where
-    by_test : (nop sum call : Bool) → (nop ≡ true → sum ≡ false)
-        → written
-        (cond nop (nop_done 16 settings s)
-        (cond sum (arithmetic_done 16 settings (sources_in input s).src0.value (sources_in input s).src1.value s)
-        (cond call (near_call_done 16 settings (want_in input s) s) (close_done settings (top_frame s store) s)))).answer
-        ≡ cond sum s.kept.write Location.None
-    by_test true sum call h = rw (h refl) refl
-    by_test false true call h = kept_place s.kept.write _
-    by_test false false true h = refl
-    by_test false false false h = refl
+    by_test : (nop sum call : Bool) → is_nop (record_of s) ≡ nop → is_arithmetic (record_of s) ≡ sum → is_near_call (record_of s) ≡ call
+        → written (execute_done 16 settings input s store).answer ≡ place_written s s.kept.write
+    by_test true true call e f g = absurd (grind arith)
+    by_test true false call e f g = cc
+    by_test false true call e f g = rw (e, f) (kept_place s.kept.write _)
+    by_test false false true e f g = rw (e, f, g) refl
+    by_test false false false e f g = rw (e, f, g) refl
 
 execute_writes : (settings : Settings) (s : State) (store : List ℕ) (input : ExecuteInput) (answer : ExecuteAnswer)
     → (execute_of 16 settings input s store).answer ≡ Ok answer
-    → place_of answer.write ≡ cond (is_arithmetic (record_of s)) s.kept.write Location.None
+    → place_of answer.write ≡ place_written s s.kept.write
 unfolding execute_of
 execute_writes settings s store input answer =
-    by_number (λ r. r.answer ≡ Ok answer → place_of answer.write ≡ cond (is_arithmetic (record_of s)) s.kept.write Location.None)
+    by_number (λ r. r.answer ≡ Ok answer → place_of answer.write ≡ place_written s s.kept.write)
     (execute_refusal 16 settings input s store) (refused_with s) (execute_done 16 settings input s store)
     (λ z e. sym (ap written e) ∙ at_kept settings s store input)
     (λ h e. absurd (cc))
@@ -68,7 +63,7 @@ unfolding operands_of operands_done addressed_state
 writes_where_answered settings s store told answered later after input answer =
     by_number
     (λ r. r.answer ≡ Ok told → (execute_of 16 later input r.state after).answer ≡ Ok answer
-    → place_of answer.write ≡ cond (is_arithmetic (record_of s)) told.destination Location.None)
+    → place_of answer.write ≡ place_written s told.destination)
     (operands_refusal settings s store) (refused_with s) (operands_done 16 s)
     (λ z e f. rw (← ap destination e) (execute_writes later (operands_done 16 s).state after input answer f))
     (λ h e f. absurd (cc))
