@@ -2,6 +2,7 @@
 #![tactic(auto)]
 
 mod returns;
+mod show;
 mod variants;
 
 fn main(rt: HostRuntime) {

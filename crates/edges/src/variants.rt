@@ -1,9 +1,10 @@
 // The listing's variants: each is an input, and what is listed for it after the names line.
-use listing::{ROOM, TOO_LONG};
-use text::Lines;
+use crate::show::show;
+use listing::ROOM;
+use text::TOO_LONG;
 
 // A name and an input each.
-const VARIANTS: [(&str, &str); 48] = [
+const VARIANTS: [(&str, &str); 50] = [
     // the example
     (
         "the example",
@@ -56,6 +57,10 @@ const VARIANTS: [(&str, &str); 48] = [
     (
         "field missing in line 2",
         "ergs limit\n1000\nop price want\nadd 6 0\n",
+    ),
+    (
+        "a want that is empty",
+        "ergs limit\n1000 4\nop price want\nadd 6 \n",
     ),
     (
         "field too many",
@@ -135,6 +140,10 @@ const VARIANTS: [(&str, &str); 48] = [
     // limits
     ("limit 0", "ergs limit\n1000 0\nop price want\n"),
     ("limit 17", "ergs limit\n1000 17\nop price want\n"),
+    (
+        "limit 4294967300",
+        "ergs limit\n1000 4294967300\nop price want\n",
+    ),
     ("limit 1", "ergs limit\n1000 1\nop price want\n"),
     ("limit 16", "ergs limit\n1000 16\nop price want\nadd 6 0\n"),
     // refusals
@@ -178,23 +187,11 @@ const VARIANTS: [(&str, &str); 48] = [
     ),
 ];
 
-// Prints what a listing has after its names line, with a bar between two rows.
-fn show(rt: &impl Print, listed: &[u8]) {
-    let mut rows = Lines::new(listed).skip(1);
-    let _ = rt.write_all(rows.next().unwrap_or(b"no cycle"));
-    for row in rows {
-        let _ = rt.write_all(b" | ");
-        let _ = rt.write_all(row);
-    }
-    let _ = println!(rt);
-}
-
 fn variant(rt: &impl Print, name: &str, input: &[u8]) {
     // nothing is allocated
     let mut buffer = [0u8; ROOM];
     let size = listing::listing(input, &mut buffer);
-    let _ = print!(rt; "{name}: ");
-    show(rt, &buffer[..size]);
+    show(rt, name, &buffer[..size], b"no cycle");
 }
 
 pub(crate) fn table(rt: &impl Print) {
@@ -203,7 +200,7 @@ pub(crate) fn table(rt: &impl Print) {
     }
 }
 
-// Its ergs are a 1 after so many zeros that it is a byte longer than is taken. An array, as nothing is allocated.
+// Its ergs are a 1 after so many zeros that the input is a byte longer than is taken. An array, as nothing is allocated.
 fn too_long() -> [u8; TOO_LONG] {
     let mut input = [b'0'; TOO_LONG];
     input[..11].copy_from_slice(b"ergs limit\n");

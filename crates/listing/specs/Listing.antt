@@ -1,12 +1,12 @@
--- The nearbook listing: what is printed for the bytes of an input. Document 01: "Program nearbook reads standard input, at most 65,536 bytes"; "A bad line ... ends it with
--- `bad line N` (from 1; 0 for too long), a refusal with `refused R`; the names line is printed first in every case."
-use Rattle.std.specs.Prelude.{ℕ, ◌+◌, Bool, cond, List, [], ◌∷◌, ◌++◌, Option, Some, None, Result, Ok, Err, ltb, length, get_or, drop}
+-- The nearbook listing: what is printed for the bytes of an input. Document 01: "A bad line ... ends it with `bad line N` (from 1; 0 for too long), a refusal with
+-- `refused R`; the names line is printed first in every case."
+use Rattle.std.specs.Prelude.{ℕ, ◌+◌, List, [], ◌∷◌, ◌++◌, Option, Some, None, Result, Ok, Err, get_or, drop}
 use Rattle.text.specs.Bytes.{bytes_of, same_bytes}
-use Rattle.text.specs.Parts.{lines_of}
 use Rattle.table.specs.declared.Line.{Line}
 use Rattle.table.specs.declared.Start.{Start}
 use Rattle.table.specs.Line.{line_of, start_of}
 use Rattle.table.specs.Row.{row_text, bad_line, refused_line, names_line}
+use Rattle.table.specs.Printed.{printed, named}
 use Rattle.refusal.specs.declared.Refusal.{Refusal}
 use Rattle.refusal.specs.Refusal.{paper_number}
 use Rattle.line_cycle.specs.LineCycle.{Holding, start_holding, line_answer, holding_after, printed_row}
@@ -29,10 +29,6 @@ lines_text limit n b [] = []
 lines_text limit n b (line ∷ lines) = line_text limit n b (line_of line) (λ next. lines_text limit (n + 1) next lines)
 
 -- ---- the first three lines; a line that is missing is bad as an empty one is
--- a line of names, and what follows it
-abbrev pub named : ℕ → Bool → List ℕ → List ℕ
-named n same later = cond same later (bad_line n)
-
 unfoldable pub from_columns_line : ℕ → ℕ → List (List ℕ) → List ℕ
 from_columns_line ergs limit lines = named 3 (same_bytes (get_or lines 0 []) (bytes_of "op price want")) (lines_text limit 1 (start_holding ergs) (drop 1 lines))
 
@@ -47,4 +43,4 @@ unfoldable pub from_names_line : List (List ℕ) → List ℕ
 from_names_line lines = named 1 (same_bytes (get_or lines 0 []) (bytes_of "ergs limit")) (from_values_line (drop 1 lines))
 
 unfoldable pub listing_of : List ℕ → List ℕ
-listing_of input = names_line ++ cond (ltb 65536 (length input)) (bad_line 0) (from_names_line (lines_of input))
+listing_of input = printed names_line from_names_line input

@@ -1,7 +1,7 @@
 // The nearbook listing: from the bytes of an input to the bytes printed.
 #![tactic(auto)]
 
-ghost use Rattle.std.specs.Prelude.{◌≡◌, ◌≤◌, [], length, take, drop, get_or, MatchResult};
+ghost use Rattle.std.specs.Prelude.{◌≡◌, ◌≤◌, length, take, drop, MatchResult};
 ghost use Rattle.text.specs.Bytes.{Wrote};
 ghost use Rattle.text.specs.Lines.{lines_left};
 ghost use Rattle.table.specs.Row.{bad_line};
@@ -9,10 +9,7 @@ ghost use Rattle.line_cycle.specs.LineCycle.{start_holding};
 ghost use Rattle.listing.specs.Listing.{lines_text, from_names_line, listing_of};
 
 use table::Start;
-use text::{Lines, Writer};
-
-// An input of so many bytes is too long, so a buffer of this size shows one that is.
-pub const TOO_LONG: usize = 65537;
+use text::{Lines, TOO_LONG, Writer};
 
 // Room for the longest listing: 20 bytes for each byte of the longest input, and 128 for the names line and what ends the listing.
 pub const ROOM: usize = 1310848;
@@ -47,13 +44,6 @@ fn put_cycles(start: Start, lines: Lines<'_>, writer: &mut Writer<'_>)
     }
 }
 
-// A line that is missing is bad as an empty one is.
-fn next_line<'a>(lines: &mut Lines<'a>) -> &'a [u8]
-    ensures { (result.now ≡ get_or (lines_left lines.old) 0 []) × (lines_left lines.new ≡ drop 1 (lines_left lines.old)) }
-{
-    lines.next().unwrap_or(b"")
-}
-
 // The number of a line that is bad.
 #[derive(Clone, Copy)]
 struct BadLine {
@@ -67,11 +57,11 @@ fn read_start(lines: &mut Lines<'_>) -> Result<Start, BadLine>
         (λ start. from_names_line (lines_left lines.old) ≡ lines_text start.limit 1 (start_holding start.ergs) (lines_left lines.new))
         (λ bad. from_names_line (lines_left lines.old) ≡ bad_line bad.number) }
 {
-    if next_line(lines) != b"ergs limit".as_slice() {
+    if lines.next_or_empty() != b"ergs limit".as_slice() {
         return Err(BadLine { number: 1 });
     }
-    let start = table::start_of(next_line(lines)).ok_or(BadLine { number: 2 })?;
-    if next_line(lines) != b"op price want".as_slice() {
+    let start = table::start_of(lines.next_or_empty()).ok_or(BadLine { number: 2 })?;
+    if lines.next_or_empty() != b"op price want".as_slice() {
         return Err(BadLine { number: 3 });
     }
     Ok(start)

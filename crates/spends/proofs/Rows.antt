@@ -13,7 +13,8 @@ use Rattle.table.specs.declared.Start.{Start}
 use Rattle.table.specs.Line.{line_of, start_of}
 use Rattle.table.specs.Row.{row_text, bad_line}
 use Rattle.line_cycle.specs.LineCycle.{Holding, start_holding, line_answer, entries_after, holding_after, printed_row}
-use Rattle.listing.specs.Listing.{going_on, line_text, named, lines_text, from_columns_line, from_values_line, from_names_line, listing_of}
+use Rattle.table.specs.Printed.{named}
+use Rattle.listing.specs.Listing.{going_on, line_text, lines_text, from_columns_line, from_values_line, from_names_line, listing_of}
 use Rattle.spends.specs.Lines.{places_to}
 use Rattle.spends.specs.Rows.{Ending, all_run, ends_bad, ends_refused, rows_text, depth_after, charges_since, all_charges, RowAddsUp, Listed, RowsAddUp}
 use Rattle.tally.proofs.TallyLaws.{in_tally}

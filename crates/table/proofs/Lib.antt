@@ -1,2 +1,3 @@
 pub mod RowLaws
 pub mod LineLaws
+pub mod PrintedLaws

@@ -1,2 +1,3 @@
 pub mod Line
 pub mod Row
+pub mod Printed

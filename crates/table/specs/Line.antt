@@ -2,9 +2,12 @@
 -- ... limit 1 to 16"; a bad line has "a wrong name or op, a field missing or too many, fields not parted by one space, a value not plain decimal digits, above 32 bits,
 -- or a limit outside its range". The two lines of names are in listing/specs/Listing.antt.
 use Rattle.std.specs.Prelude.{ℕ, cond, ◌&&◌, List, [], ◌∷◌, Option, Some, None, leb}
+use Rattle.std.specs.Bool.{then_some}
+use Rattle.std.specs.Option.{option_and_then}
 use Rattle.text.specs.Bytes.{bytes_of, same_bytes}
 use Rattle.text.specs.Parts.{fields_of}
 use Rattle.text.specs.Number.{number_of}
+use Rattle.text.specs.Pair.{pair_in}
 use Rattle.table.specs.declared.Op.{Op}
 use Rattle.table.specs.declared.Line.{Line}
 use Rattle.table.specs.declared.Start.{Start}
@@ -43,16 +46,8 @@ unfoldable pub line_of : List ℕ → Option Line
 line_of line = line_fields (fields_of line)
 
 -- the second line, `ergs limit`
-abbrev pub start_with : Option ℕ → Option ℕ → Option Start
-start_with None limit = None
-start_with (Some ergs) None = None
-start_with (Some ergs) (Some limit) = cond (leb 1 limit && leb limit 16) (Some record { ergs = ergs; limit = limit }) None
-
-abbrev pub start_fields : List (List ℕ) → Option Start
-start_fields [] = None
-start_fields (a ∷ []) = None
-start_fields (a ∷ b ∷ []) = start_with (number_of a) (number_of b)
-start_fields (a ∷ b ∷ c ∷ more) = None
+abbrev pub start_with : ℕ × ℕ → Option Start
+start_with pair = then_some (leb 1 pair.1 && leb pair.1 16) record { ergs = pair.0; limit = pair.1 }
 
 unfoldable pub start_of : List ℕ → Option Start
-start_of line = start_fields (fields_of line)
+start_of line = option_and_then start_with (pair_in 32 line)

@@ -20,6 +20,7 @@ row_text r =
     ++ ((32 ∷ [])
     ++ (field r.charge 32 ++ (field r.depth 32 ++ (field r.held 32 ++ (field r.total 32 ++ field r.own 10))))))
 
+-- the last two a bill prints, too
 abbrev pub bad_line : ℕ → List ℕ
 bad_line n = bytes_of "bad line " ++ field n 10
 

@@ -1,4 +1,4 @@
-// The lines of a listing: what a line of the input says, and what a line of the output prints.
+// The lines of a listing: what a line of the input says, and what a line of the output prints, with what a bill prints as a listing does.
 #![tactic(auto)]
 
 ghost use Rattle.std.specs.Prelude.{◌≡◌};
@@ -8,7 +8,7 @@ mod lines;
 mod print;
 
 pub use lines::{line_of, start_of};
-pub use print::{put_bad_line, put_refused, put_row};
+pub use print::{put_bad_line, put_field, put_refused, put_row};
 
 #[derive(Clone, Copy, Debug, PartialEq, Eq)]
 pub enum Op {

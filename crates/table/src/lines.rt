@@ -3,7 +3,7 @@ ghost use Rattle.std.specs.Prelude.{◌≡◌};
 ghost use Rattle.table.specs.Line.{line_of, start_of};
 
 use crate::{Line, Op, Start};
-use text::read_number;
+use text::{read_number, read_pair};
 
 // A line `op price want`.
 pub fn line_of(line: &[u8]) -> Option<Line>
@@ -23,11 +23,8 @@ pub fn line_of(line: &[u8]) -> Option<Line>
 pub fn start_of(line: &[u8]) -> Option<Start>
     ensures { result ≡ start_of line.now }
 {
-    let mut values = line.split(|byte| *byte == b' ');
-    let ergs = read_number(values.next()?)?;
-    let limit = read_number(values.next()?)?;
-    if values.next().is_some() {
-        return None;
-    }
+    let (ergs, limit) = read_pair(line)?;
+    let ergs = u32::try_from(ergs).ok()?;
+    let limit = u32::try_from(limit).ok()?;
     (1..=16).contains(&limit).then_some(Start { ergs, limit })
 }

@@ -1,4 +1,4 @@
-// What the listing prints.
+// What a listing or a bill prints.
 ghost use Rattle.text.specs.Bytes.{Wrote, bytes_of};
 ghost use Rattle.std.specs.Prelude.{◌++◌};
 ghost use Rattle.table.specs.Row.{field, row_text, bad_line, refused_line};
@@ -7,7 +7,7 @@ use crate::Row;
 use text::Writer;
 
 // A number, and the byte after it.
-fn put_field(writer: &mut Writer<'_>, number: u64, separator: u8)
+pub fn put_field(writer: &mut Writer<'_>, number: u64, separator: u8)
     ensures { Wrote writer.old (field number separator) writer.new }
 {
     writer.put_number(number);
@@ -42,7 +42,7 @@ pub fn put_bad_line(writer: &mut Writer<'_>, n: u64)
     put_labelled(writer, b"bad line ", n);
 }
 
-// Any number may be given, as it was: a `Refusal` would ask callers for one of the fifteen.
+// A number and no `Refusal`: what ends a bill is none of those.
 pub fn put_refused(writer: &mut Writer<'_>, number: u32)
     ensures { Wrote writer.old (refused_line number) writer.new }
 {

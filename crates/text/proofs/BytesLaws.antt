@@ -27,7 +27,7 @@ same_length a b h = go (same_bytes a b) (bytes_eq-Decides a b).0
     go false same = refl
 
 -- past its end the buffer is not written
-pub sets_out : (buffer : List ℕ) (at : ℕ) (bytes : List ℕ) → length buffer ≤ at → sets buffer at bytes ≡ buffer
+sets_out : (buffer : List ℕ) (at : ℕ) (bytes : List ℕ) → length buffer ≤ at → sets buffer at bytes ≡ buffer
 sets_out buffer at [] h = refl
 sets_out buffer at (b ∷ bs) h = rw (set_out buffer at b h) (sets_out buffer (suc at) bs (omega arith))
 
@@ -102,14 +102,40 @@ module _ (old : Writer) where
   wrote_same e w = rw e w
 
   -- the buffer stays as long as it was
-  pub wrote_length : (text : List ℕ) {new : Writer} → Wrote old text new → length new.buffer.now ≡ length old.buffer.now
+  wrote_length : (text : List ℕ) {new : Writer} → Wrote old text new → length new.buffer.now ≡ length old.buffer.now
   wrote_length text w = ap length w.bytes ∙ length-sets old.buffer.now old.position text
 
--- a text that fits on the buffer stands at its front, before what stood there
-pub whole : (buffer text : List ℕ) → length text ≤ length buffer
-    → (take (length text) (sets buffer 0 text) ≡ text) × (drop (length text) (sets buffer 0 text) ≡ drop (length text) buffer)
-whole buffer text h =
-    let e : sets buffer 0 text ≡ text ++ drop (length text) buffer = sets-eq text buffer 0 (omega arith) ∙ rw zero-add in (
-      ap (take (length text)) e ∙ take_at text (drop (length text) buffer) (length text) refl,
-      ap (drop (length text)) e ∙ drop_at text (drop (length text) buffer) (length text) refl,
-    )
+-- Of a text that is written from one writer on the rest is unwritten at another: written from there on it ends the text.
+pub record Unwritten (old : Writer) (text rest : List ℕ) (now : Writer) : Type 0 where
+  pub inside : now.position ≤ length now.buffer.now
+  pub ends : (new : Writer) → Wrote now rest new → Wrote old text new
+
+pub unwritten_whole : (old : Writer) (text : List ℕ) → old.position ≤ length old.buffer.now → Unwritten old text text old
+unwritten_whole old text within = record { inside = within; ends = λ new w. w }
+
+module _ {old : Writer} {text rest : List ℕ} {now : Writer} (p : Unwritten old text rest now) where
+  -- nothing is left
+  pub unwritten_none : rest ≡ [] → Wrote old text now
+  unwritten_none e = rw e at p.ends now record { bytes = refl; position = omega (arith, p.inside); same = refl }
+
+  module _ {new : Writer} where
+    -- the last part is written
+    pub unwritten_last : {part : List ℕ} → rest ≡ part → Wrote now part new → Wrote old text new
+    unwritten_last e w = p.ends new (rw e w)
+
+    -- a part is written, and others are left
+    pub unwritten_part : (part later : List ℕ) → rest ≡ part ++ later → Wrote now part new → Unwritten old text later new
+    unwritten_part part later e w = record {
+      inside = omega (arith, w.position, wrote_length now part w);
+      ends = λ end z. p.ends end (rw e (join now part later w z));
+    }
+
+-- a text that is written from the front of a buffer with room for it stands there, and the rest of the buffer is as it was
+pub wrote_front : (text : List ℕ) (old : Writer) {new : Writer} → old.position ≡ 0 → length text ≤ length old.buffer.now → Wrote old text new
+    → (new.position ≡ length text) × (take new.position new.buffer.now ≡ text) × (drop new.position new.buffer.now ≡ drop new.position old.buffer.now)
+wrote_front text old {new} start room wrote =
+    let buffer = old.buffer.now in
+    let front : sets buffer 0 text ≡ text ++ drop (length text) buffer = sets-eq text buffer 0 (omega arith) ∙ rw zero-add in
+    let n : new.position ≡ length text = omega (arith, wrote.position) in
+    let written : new.buffer.now ≡ text ++ drop (length text) buffer = rw start at wrote.bytes ∙ front in
+    (n, rw (n, written) (take_at text (drop (length text) buffer) (length text) refl), rw (n, written) (drop_at text (drop (length text) buffer) (length text) refl))

@@ -9,18 +9,17 @@ use Rattle.std.specs.Str.{bytes_eq}
 use Rattle.std.specs.List.{position_or_len, slice_split, IsFirstMatchOrLen}
 use Rattle.std.proofs.lemmas.List.{take_rest, drop_min, take_at, length-take-le}
 use Rattle.std.proofs.lemmas.List.Sums.{position_or_len_is}
-use Rattle.std.proofs.lemmas.List.Splits.{join_with_byte-slice_split}
 use Rattle.std.proofs.lemmas.Slice.Eq.{strip_suffix_is}
 use Rattle.std.proofs.lemmas.Bool.Decides.{Decides-eqb}
 use denote.Ref.{Bor}
 use Rattle.text.specs.Parts.{onto, lines_of, fields_of}
 
 -- where the first line ends: at its line end, or with the bytes
-abbrev pub line_end : List ℕ → ℕ
+abbrev line_end : List ℕ → ℕ
 line_end bytes = position_or_len (λ b. eqb b 10) bytes
 
 -- the first line, and those after its line end
-pub lines_cut : (bytes : List ℕ) → 0 < length bytes → lines_of bytes ≡ take (line_end bytes) bytes ∷ lines_of (drop (line_end bytes + 1) bytes)
+lines_cut : (bytes : List ℕ) → 0 < length bytes → lines_of bytes ≡ take (line_end bytes) bytes ∷ lines_of (drop (line_end bytes + 1) bytes)
 lines_cut [] h = absurd (omega arith)
 lines_cut (b ∷ bs) h = go (eqb b 10) bs (lines_cut bs)
   where
@@ -95,11 +94,39 @@ lines_length (b ∷ bs) = go (eqb b 10) (lines_of bs) (lines_length bs)
     go false [] h = omega arith
     go false (l ∷ ls) h = omega arith
 
+-- the bytes of parts, with one for each part's end
+unfoldable pub parts_bytes : List (List ℕ) → ℕ
+parts_bytes [] = 0
+parts_bytes (line ∷ lines) = length line + 1 + parts_bytes lines
+
+-- of lines no more than the bytes they are of, and one more line end
+pub parts_bytes_lines : (bytes : List ℕ) → parts_bytes (lines_of bytes) ≤ length bytes + 1
+unfolding parts_bytes
+parts_bytes_lines [] = omega arith
+parts_bytes_lines (b ∷ bs) = go (eqb b 10) (lines_of bs) (parts_bytes_lines bs)
+  where
+    go : (t : Bool) (rest : List (List ℕ)) → parts_bytes rest ≤ length bs + 1 → parts_bytes (cond t ([] ∷ rest) (onto b rest)) ≤ suc (length bs) + 1
+    go true rest h = omega arith
+    go false [] h = omega arith
+    go false (p ∷ ps) h = omega arith
+
+pub parts_bytes_drop : (lines : List (List ℕ)) → parts_bytes (drop 1 lines) ≤ parts_bytes lines
+unfolding parts_bytes
+parts_bytes_drop [] = omega arith
+parts_bytes_drop (l ∷ ls) = omega arith
+
 -- fields are std's parts
 pub fields_split : (line : List ℕ) → slice_split (λ b. eqb b 32) line ≡ fields_of line
 fields_split [] = refl
 fields_split (b ∷ bs) = ap (λ ps. cond (eqb b 32) ([] ∷ ps) (onto b ps)) (fields_split bs)
 
--- a line of three fields has their bytes and two spaces
-pub fields_length : (line a b c : List ℕ) → fields_of line ≡ a ∷ b ∷ c ∷ [] → length line ≡ length a + length b + length c + 2
-fields_length line a b c e = omega (arith, simp length-append at (ap length (rw (fields_split line, e) at (join_with_byte-slice_split 32 line))))
+-- of fields the line's bytes, and one more
+pub parts_bytes_fields : (line : List ℕ) → parts_bytes (fields_of line) ≡ length line + 1
+unfolding parts_bytes
+parts_bytes_fields [] = refl
+parts_bytes_fields (b ∷ bs) = go (eqb b 32) (fields_of bs) (parts_bytes_fields bs)
+  where
+    go : (t : Bool) (rest : List (List ℕ)) → parts_bytes rest ≡ length bs + 1 → parts_bytes (cond t ([] ∷ rest) (onto b rest)) ≡ suc (length bs) + 1
+    go true rest h = omega arith
+    go false [] h = absurd (omega arith)
+    go false (p ∷ ps) h = omega arith

@@ -1,4 +1,4 @@
--- Numbers as text. None by document 01: "a value not plain decimal digits, above 32 bits".
+-- Numbers as text. By document 01 a line is bad for "a value not plain decimal digits, above 32 bits"; here the width w is a parameter.
 use Rattle.std.specs.Prelude.{ℕ, zero, suc, ◌+◌, ◌*◌, ◌-◌, ◌/◌, ◌%◌, ◌^◌, Bool, true, false, cond, ◌&&◌, List, [], ◌∷◌, ◌++◌, Option, Some, None, ltb, leb}
 
 -- bytes 48 to 57 are the digits 0 to 9
@@ -19,10 +19,14 @@ abbrev pub decimal_after : ℕ → List ℕ → ℕ
 decimal_after n [] = n
 decimal_after n (b ∷ bs) = decimal_after (n * 10 + (b - 48)) bs
 
--- plain decimal digits that say a number of 32 bits; zeros may stand in front
-unfoldable pub number_of : List ℕ → Option ℕ
-number_of field =
-    cond (is_some field && all_digits field && ltb (decimal_after 0 field) (2 ^ 32)) (Some (decimal_after 0 field)) None
+-- plain decimal digits that say a number of w bits; zeros may stand in front
+unfoldable pub number_in : ℕ → List ℕ → Option ℕ
+number_in w field =
+    cond (is_some field && all_digits field && ltb (decimal_after 0 field) (2 ^ w)) (Some (decimal_after 0 field)) None
+
+-- a value of document 01's listing
+abbrev pub number_of : List ℕ → Option ℕ
+number_of = number_in 32
 
 -- the digits of n, with no zero in front, for n of at most k + 1 digits
 abbrev pub digits_in : ℕ → ℕ → List ℕ

@@ -1,8 +1,13 @@
-// Text as bytes: parts between separators, numbers read and written, and a buffer to write on. Nothing here refuses: what does not fit on the buffer is left out.
+// Text as bytes: an input, parts between separators, numbers read and written, and a buffer to write on. Nothing here refuses: what does not fit on the buffer is left out.
 #![tactic(auto)]
 
-ghost use Rattle.std.specs.Prelude.{◌≡◌, ◌<◌, ◌^◌, ◌==◌, [], ◌∷◌, length};
-ghost use Rattle.text.specs.Number.{number_of, digits_of};
+ghost use Rattle.std.specs.Prelude.{◌≡◌, ◌<◌, ◌^◌, ◌==◌, [], ◌∷◌, length, drop, get_or};
+ghost use Rattle.text.specs.Number.{number_in, number_of, digits_of};
+ghost use Rattle.text.specs.Pair.{pair_in};
+
+mod input;
+
+pub use input::{TOO_LONG, read_full};
 
 // The lines that are left of some bytes. A type of its own around std's adapter: contracts say of it which lines are left, and a closure's type, which
 // the adapter holds, has no name that they could say.
@@ -23,6 +28,13 @@ impl<'a> Lines<'a> {
     {
         Lines { rest: bytes }
     }
+
+    // The next line, and an empty one where none is left: for callers a line that is missing is as bad as an empty one.
+    pub fn next_or_empty(&mut self) -> &'a [u8]
+        ensures { (result.now ≡ get_or (lines_left self.old) 0 []) × (lines_left self.new ≡ drop 1 (lines_left self.old)) }
+    {
+        self.next().unwrap_or(b"")
+    }
 }
 
 impl<'a> Iterator for Lines<'a> {
@@ -42,23 +54,41 @@ impl<'a> Iterator for Lines<'a> {
     }
 }
 
-// A number of 32 bits in plain decimal digits. Not std's `parse`, which takes a `+` in front.
-pub fn read_number(field: &[u8]) -> Option<u32>
-    ensures { result ≡ number_of field.now }
+// A number of 64 bits in plain decimal digits. Not std's `parse`, which takes a `+` in front.
+pub fn read_u64(field: &[u8]) -> Option<u64>
+    ensures { result ≡ number_in 64 field.now }
 {
     if field.is_empty() {
         return None;
     }
-    let mut number: u32 = 0;
+    let mut number: u64 = 0;
     for byte in field {
         let b'0'..=b'9' = *byte else {
             return None;
         };
         number = number
             .checked_mul(10)?
-            .checked_add(u32::from(*byte - b'0'))?;
+            .checked_add(u64::from(*byte - b'0'))?;
     }
     Some(number)
+}
+
+// The same of 32 bits.
+pub fn read_number(field: &[u8]) -> Option<u32>
+    ensures { result ≡ number_of field.now }
+{
+    let number = read_u64(field)?;
+    u32::try_from(number).ok()
+}
+
+// A line of two numbers of 64 bits.
+pub fn read_pair(line: &[u8]) -> Option<(u64, u64)>
+    ensures { result ≡ pair_in 64 line.now }
+{
+    let mut fields = line.split(|byte| *byte == b' ');
+    let first = read_u64(fields.next()?)?;
+    let second = read_u64(fields.next()?)?;
+    fields.next().is_none().then_some((first, second))
 }
 
 // A buffer to write text on. The text is written from the position on, and what does not fit is left out, where a writer of std's fails.
@@ -71,7 +101,7 @@ pub struct Writer<'a> {
 impl<'a> Writer<'a> {
     ghost use Rattle.text.specs.Bytes.{Wrote};
 
-    // Not `put_bytes(&[byte])`, which copies by a call: nearbook then takes 1,084 instructions for a line of a list, and not 908 (docs/SPEED.md).
+    // Not `put_bytes(&[byte])`, which copies by a call: nearbook then takes a fifth more instructions for a line of a list (docs/SPEED.md).
     pub fn put_byte(&mut self, byte: u8)
         ensures { Wrote self.old (byte ∷ []) self.new }
     {

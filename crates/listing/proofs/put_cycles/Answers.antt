@@ -1,6 +1,7 @@
 use Rattle.std.proofs.Common.{ap, length, arith, sym, ◌∙◌}
 use mathlib.Core.Logic.{⊎_elim}
 use Rattle.text.proofs.PartsLaws.{lines_length}
+use Rattle.text.proofs.BytesLaws.{unwritten_whole, unwritten_none, unwritten_last, unwritten_part}
 use Rattle.listing.proofs.ListingLaws as laws
 use Rattle.listing.proofs.put_cycles.Goals as goal
 
@@ -8,19 +9,20 @@ pub loop-line-init : goal.loop-line-init
 loop-line-init c =
     let few = lines_length c.args.lines.rest.now in
     rw (c.into_iter-line-iterator.ensures.into_iter_gives, c.zip-line-items.ensures.first, c.zip-line-items.ensures.second, c.start_state-state.ensures)
-    (omega arith, record { inside = c.requires; ends = λ new w. w })
+    (omega arith, unwritten_whole c.args.writer.now _ c.requires)
 
 pub returns-in_default : goal.returns-in_default
 returns-in_default c =
     let steps = c.in-Some.ensures.steps in
-    laws.going_bad c.loop-line.invariant.1 steps.0 (sym c.line_of.ensures ∙ c.in_default.is) (rw steps.1.0 at c.put_bad_line.ensures)
+    unwritten_last c.loop-line.invariant.1 (laws.prints_bad _ _ _ steps.0 (sym c.line_of.ensures ∙ c.in_default.is)) (rw steps.1.0 at c.put_bad_line.ensures)
 
 pub returns-in-Err : goal.returns-in-Err
 returns-in-Err c =
     let steps = c.in-Some.ensures.steps in
     let ran = c.run_line-ran in
-    laws.going_refused c.loop-line.invariant.1 steps.0 (sym c.line_of.ensures ∙ c.in-Some-line_of.is)
-    _ (rw ran.ensures.0 at c.in-Err.is) (rw c.number.ensures at c.put_refused.ensures)
+    unwritten_last c.loop-line.invariant.1
+    (laws.prints_refused _ _ _ steps.0 (sym c.line_of.ensures ∙ c.in-Some-line_of.is) _ (rw ran.ensures.0 at c.in-Err.is))
+    (rw c.number.ensures at c.put_refused.ensures)
 
 pub loop-line-preserved : goal.loop-line-preserved
 loop-line-preserved c =
@@ -29,10 +31,11 @@ loop-line-preserved c =
     let fewer = ap length steps.0 in (
       omega (arith, c.loop-line.invariant.0, fewer, steps.1.0, steps.1.1),
       rw (steps.1.1, steps.1.0, ran.ensures.0, ran.ensures.1, ran.ensures.2)
-          (laws.going_on c.loop-line.invariant.1 steps.0 (sym c.line_of.ensures ∙ c.in-Some-line_of.is) (rw ran.ensures.0 at c.in_default-answer.is)
+          (unwritten_part c.loop-line.invariant.1 _ _
+          (laws.prints_row _ _ _ steps.0 (sym c.line_of.ensures ∙ c.in-Some-line_of.is) (rw ran.ensures.0 at c.in_default-answer.is))
           (rw (c.printed_row-row.ensures, steps.1.0, ran.ensures.0, ran.ensures.1, ran.ensures.2) at c.put_row.ensures)),
     )
 
 pub returns : goal.returns
 returns c =
-    ⊎_elim (λ e. laws.going_done c.loop-line.invariant.1 e.1.0) (λ e. absurd (omega (arith, c.loop-line.invariant.0, e.1.0))) c.in-None.ensures.steps
+    ⊎_elim (λ e. unwritten_none c.loop-line.invariant.1 (rw e.1.0)) (λ e. absurd (omega (arith, c.loop-line.invariant.0, e.1.0))) c.in-None.ensures.steps

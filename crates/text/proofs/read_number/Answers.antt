@@ -1,19 +1,11 @@
-use Rattle.std.proofs.Common.{arith, sym, ◌∙◌}
-use Rattle.std.proofs.lemmas.Bool.Decides.{nat_tests}
-use Rattle.text.proofs.NumberLaws as laws
+use Rattle.std.proofs.Common.{arith, refl, sym, ◌∙◌}
+use Rattle.text.proofs.NumberLaws.{number_fitted, converted}
 use Rattle.text.proofs.read_number.Goals as goal
 
-pub returns-then-is_empty : goal.returns-then-is_empty
-returns-then-is_empty c = laws.reading_none c.args.field.now (grind (arith, nat_tests))
-
-pub loop-byte-init : goal.loop-byte-init
-loop-byte-init c = (omega arith, laws.reading_first c.args.field.now (λ h. grind (arith, nat_tests)))
-
-pub returns-in_err-checked_mul : goal.returns-in_err-checked_mul
-returns-in_err-checked_mul c = c.from_residual.ensures ∙ sym (c.loop-byte.invariant.1 ∙ laws.reading_past c.loop-byte.number c.args.field.now c.loop-byte.byte-index c.loop-byte-test.true (grind (arith, nat_tests)) (grind (arith, nat_tests)))
-
 pub returns-in_err-number : goal.returns-in_err-number
-returns-in_err-number c = c.from_residual-in_err-number.ensures ∙ sym (c.loop-byte.invariant.1 ∙ laws.reading_past c.loop-byte.number c.args.field.now c.loop-byte.byte-index c.loop-byte-test.true (grind (arith, nat_tests)) (grind (arith, nat_tests)))
+returns-in_err-number c = c.from_residual.ensures ∙ sym (rw (number_fitted 32 64 (omega arith) c.args.field.now, ← c.read_u64.ensures, c.in_err-number.was))
 
 pub returns : goal.returns
-returns c = sym (c.loop-byte.invariant.1 ∙ laws.reading_done c.loop-byte.number c.args.field.now c.loop-byte.byte-index (omega arith) c.loop-byte-test.false)
+returns c =
+    rw (number_fitted 32 64 (omega arith) c.args.field.now, ← c.read_u64.ensures, c.in_ok-number.was)
+    (sym (converted 32 c.in_ok-number.number c.try_from.result c.try_from.ensures c.ok.ensures.value refl))
