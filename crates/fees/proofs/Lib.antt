@@ -1,0 +1,3 @@
+pub mod BillLaws
+pub mod RoomLaws
+pub mod Example
