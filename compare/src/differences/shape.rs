@@ -24,6 +24,7 @@ pub fn rows() -> Vec<Entry> {
         row("I48", opening, Finishes, Port::Same).but_for("the cycle of opening"),
         row("I49", unwritten, Finishes, Port::Same).but_for("the time of a place that is not written"),
         no_case("I51", "execute alone is run from a state that keeps no location"),
+        no_case("I52", "the Rust has no fee"),
     ]
 }
 
