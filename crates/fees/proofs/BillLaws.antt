@@ -8,7 +8,7 @@ use Rattle.text.proofs.BytesLaws.{join}
 use Rattle.table.specs.Row.{field, bad_line, refused_line}
 use Rattle.fees.specs.declared.FeeUnits.{FeeUnits}
 use Rattle.fees.specs.declared.ZeroUnit.{ZeroUnit}
-use Rattle.fees.specs.Fee.{fee_of}
+use Rattle.fees.specs.Fee.{fee_of, fee_number}
 use Rattle.fees.specs.Bill.{bill_row, bill_lines}
 
 -- the parts of a row, written one after the other
@@ -26,7 +26,7 @@ module _ {lines others : List (List ℕ)} {line : List ℕ} (n : ℕ) (next : li
   prints_bad e = rw (next, e)
 
   module _ {spend unit : ℕ} (pair : pair_in 64 line ≡ Some (spend, unit)) where
-    pub prints_refused : (zero : ZeroUnit) → fee_of spend unit ≡ Err zero → bill_lines n lines ≡ refused_line 23
+    pub prints_refused : (zero : ZeroUnit) → fee_of spend unit ≡ Err zero → bill_lines n lines ≡ refused_line (fee_number (Err zero))
     prints_refused zero e = rw (next, pair, e)
 
     pub prints_row : (fee : FeeUnits) → fee_of spend unit ≡ Ok fee → bill_lines n lines ≡ bill_row spend unit fee ++ bill_lines (n + 1) others

@@ -8,7 +8,7 @@ use Rattle.table.specs.Row.{field, bad_line, refused_line}
 use Rattle.table.specs.Printed.{printed, named}
 use Rattle.fees.specs.declared.FeeUnits.{FeeUnits}
 use Rattle.fees.specs.declared.ZeroUnit.{ZeroUnit}
-use Rattle.fees.specs.Fee.{fee_of}
+use Rattle.fees.specs.Fee.{fee_of, fee_number}
 
 abbrev pub bill_names : List ℕ
 bill_names = bytes_of "spend unit units rest\n"
@@ -20,7 +20,7 @@ bill_row spend unit fee = field spend 32 ++ (field unit 32 ++ (field fee.units 3
 -- what a line prints for its answer, with what the lines after it print
 abbrev pub bill_answer : ℕ → ℕ → Result FeeUnits ZeroUnit → List ℕ → List ℕ
 bill_answer spend unit (Ok fee) later = bill_row spend unit fee ++ later
-bill_answer spend unit (Err zero) later = refused_line 23
+bill_answer spend unit (Err zero) later = refused_line (fee_number (Err zero))
 
 -- the same of line n of the input
 abbrev pub bill_line : ℕ → Option (ℕ × ℕ) → List ℕ → List ℕ

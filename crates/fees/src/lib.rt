@@ -1,7 +1,7 @@
 // Fee units: a spend in units of a set number of ergs, and a bill of many, from the bytes of an input to the bytes printed.
 #![tactic(auto)]
 
-ghost use Rattle.std.specs.Prelude.{◌≡◌, ◌≤◌, cond, eqb, length, take, drop};
+ghost use Rattle.std.specs.Prelude.{◌≡◌, ◌≤◌, Err, cond, eqb, length, take, drop};
 ghost use Rattle.text.specs.Bytes.{Wrote};
 ghost use Rattle.text.specs.Lines.{lines_left};
 ghost use Rattle.fees.specs.Fee.{fee_of, fee_number, FeesAddUp, NoOtherFee};
@@ -26,7 +26,7 @@ pub struct ZeroUnit;
 impl ZeroUnit {
     // Document 02's number.
     pub fn number(self) -> u32
-        ensures { result ≡ 23 }
+        ensures { result ≡ fee_number (Err self) }
     {
         23
     }
