@@ -68,15 +68,18 @@ cycle_store input s store =
     (execute_store 16 input.settings input.execute (operands_in input s store).state store)
     store
 
--- ---- the number and the charge of a cycle's answer
-abbrev pub cycle_number : Result CycleAnswer CycleRefusal → ℕ
-cycle_number (Ok answer) = 0
-cycle_number (Err refused) = paper_number refused.refusal
+-- ---- the number and the charge of a cycle's answer, whatever tells its refusal; the number is that of document 01's table
+abbrev pub cycle_refusal_number : CycleRefusal → ℕ
+cycle_refusal_number refused = paper_number refused.refusal
+
+abbrev pub cycle_number : {E : Type 0} → (E → ℕ) → Result CycleAnswer E → ℕ
+cycle_number number (Ok answer) = 0
+cycle_number number (Err refused) = number refused
 
 abbrev pub decode_charge : Result DecodeAnswer Refusal → ℕ
 decode_charge (Ok answer) = answer.charge
 decode_charge (Err refusal) = 0
 
-abbrev pub cycle_charge : Result CycleAnswer CycleRefusal → ℕ
+abbrev pub cycle_charge : {E : Type 0} → Result CycleAnswer E → ℕ
 cycle_charge (Ok answer) = answer.decode.charge
 cycle_charge (Err refused) = 0

@@ -2,8 +2,8 @@
 // four in the caller's loop.
 #![tactic(auto)]
 
-ghost use Rattle.std.specs.Prelude.{◌≡◌};
-ghost use Rattle.cycle.specs.Cycle.{refused_at, cycle_of, cycle_store, cycle_number, cycle_charge};
+ghost use Rattle.std.specs.Prelude.{◌≡◌, ℕ};
+ghost use Rattle.cycle.specs.Cycle.{refused_at, cycle_of, cycle_store, cycle_refusal_number, cycle_number, cycle_charge};
 
 use addressing::Location;
 use records::{Records, Settings};
@@ -93,18 +93,42 @@ pub fn cycle(state: State, input: Input, store: &mut [u32]) -> Cycled
     }
 }
 
-// The refusal's number, 0 where there is none. No crate here calls it: it stays since it was promised, and refusals are told by number outside.
-pub fn cycle_number(answer: Result<CycleAnswer, CycleRefusal>) -> u32
-    ensures { result ≡ cycle_number answer }
-{
-    match answer {
-        Ok(_) => 0,
-        Err(error) => error.refusal.number(),
+// What has the number of a refusal: a cycle's own, and any `u32`, by which an answer that `cycle` did not give may tell its own.
+pub trait Numbered: Copy {
+    ghost number_of: { Self → ℕ };
+
+    fn number(self) -> u32
+        ensures { result ≡ number_of self };
+}
+
+impl Numbered for CycleRefusal {
+    ghost number_of = { cycle_refusal_number };
+
+    fn number(self) -> u32 {
+        self.refusal.number()
     }
 }
 
-// What a cycle charged: 0 for a refused one, also where decode had charged.
-pub fn cycle_charge(answer: Result<CycleAnswer, CycleRefusal>) -> u32
+impl Numbered for u32 {
+    ghost number_of = { λ number. number };
+
+    fn number(self) -> u32 {
+        self
+    }
+}
+
+// The refusal's number, 0 where there is none. No crate here calls it: it stays since it was promised, and refusals are told by number outside.
+pub fn cycle_number<E: Numbered>(answer: Result<CycleAnswer, E>) -> u32
+    ensures { result ≡ cycle_number E.number_of answer }
+{
+    match answer {
+        Ok(_) => 0,
+        Err(refused) => refused.number(),
+    }
+}
+
+// What a cycle charged: 0 for a refused one, also where decode had charged, and however the refusal is told.
+pub fn cycle_charge<E: Copy>(answer: Result<CycleAnswer, E>) -> u32
     ensures { result ≡ cycle_charge answer }
 {
     match answer {
