@@ -11,13 +11,13 @@ use u256::U256;
 // The greatest limit and depth that are served.
 const MOST_ROWS: u32 = 16;
 
-// The words of a store for them: nothing is allocated, so each case has room for the greatest. Rows are cast here and in `words_of`,
+// The words of a store for them: nothing is allocated, so there is room for the greatest. Rows are cast here and in `words_of`,
 // since `From` makes no usize of a u32.
 pub(crate) const STORE: usize = MOST_ROWS as usize * ROW_WIDTH;
 
+// The store is no part of it, but lent: where a case is handed on, its words would be copied, and room for them cleared, several times a line.
 #[derive(Drop)]
 pub(crate) struct Case {
-    pub store: [u32; STORE],
     state: State,
     input: Input,
 }
@@ -30,41 +30,36 @@ pub(crate) fn words_of(rows: u32) -> usize
 }
 
 impl Case {
-    // None where the line is no case.
-    pub(crate) fn of(line: &[u8]) -> Option<Case> {
-        let mut numbers = Numbers::of(line)?;
+    // None where the line is no case. The store gets the case's rows; those past the depth are 0.
+    pub(crate) fn of(line: &[u8], store: &mut [u32; STORE]) -> Option<Case> {
+        let mut numbers = Numbers::of(line);
         let settings = settings(&mut numbers)?;
         let state = state(&mut numbers)?;
-        let mut store = [0u32; STORE];
+        *store = [0; STORE];
         for word in &mut store[..words_of(state.depth)] {
             *word = numbers.read()?;
         }
         let input = input(&mut numbers, settings)?;
-        numbers.is_over().then_some(Case {
-            store,
-            state,
-            input,
-        })
+        numbers.is_over().then_some(Case { state, input })
     }
 
-    // As many as the limit; those past the depth are 0.
-    fn rows(&mut self) -> &mut [u32] {
-        let size = words_of(self.input.settings.depth_limit);
-        &mut self.store[..size]
+    // As many as the limit.
+    fn rows<'a>(&self, store: &'a mut [u32; STORE]) -> &'a mut [u32] {
+        &mut store[..words_of(self.input.settings.depth_limit)]
     }
 
     // A whole cycle, from the state as it is: ready.
-    pub(crate) fn cycle(&mut self) -> Cycled {
-        cycle::cycle(self.state, self.input, self.rows())
+    pub(crate) fn cycle(&self, store: &mut [u32; STORE]) -> Cycled {
+        cycle::cycle(self.state, self.input, self.rows(store))
     }
 
     // Execute alone, from the state in mid-cycle that keeps the plain record.
-    pub(crate) fn execute(&mut self) -> Executed {
+    pub(crate) fn execute(&self, store: &mut [u32; STORE]) -> Executed {
         let input = self.input;
         let mut state = self.state;
         state.kept.instruction = input.records.plain;
         state.stage = Stage::Execute as u8;
-        state.execute(input.settings, self.rows(), input.execute)
+        state.execute(input.settings, self.rows(store), input.execute)
     }
 }
 

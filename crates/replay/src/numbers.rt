@@ -1,32 +1,33 @@
 // The numbers of a line, in its order: each is one that its field can hold, or there is none.
-use std::str::Split;
 use u256::U256;
 
+// What is left of the line; None behind its last number. By std's `split` of a `&str` at a `char`, and `parse`, a case takes half as
+// many instructions again.
 #[derive(Drop)]
 pub(crate) struct Numbers<'a> {
-    parts: Split<'a, char>,
+    rest: Option<&'a [u8]>,
 }
 
-// Decimal digits alone: `parse` takes a plus sign, too.
-fn number(part: &str) -> Option<u64> {
-    if part.starts_with('+') {
-        return None;
-    }
-    part.parse().ok()
+fn is_space(byte: &u8) -> bool {
+    *byte == b' '
 }
 
 impl<'a> Numbers<'a> {
     // Parted by one space each.
-    pub(crate) fn of(line: &'a [u8]) -> Option<Self> {
-        let text = str::from_utf8(line).ok()?;
-        Some(Self {
-            parts: text.split(' '),
-        })
+    pub(crate) fn of(line: &'a [u8]) -> Self {
+        Self { rest: Some(line) }
+    }
+
+    fn next(&mut self) -> Option<&'a [u8]> {
+        let rest = self.rest?;
+        let part = rest.split(is_space).next()?;
+        self.rest = rest.get(part.len() + 1..);
+        Some(part)
     }
 
     pub(crate) fn read<N: TryFrom<u64, Error: Drop>>(&mut self) -> Option<N> {
-        let part = self.parts.next()?;
-        N::try_from(number(part)?).ok()
+        let number = text::read_u64(self.next()?)?;
+        N::try_from(number).ok()
     }
 
     pub(crate) fn read_bit(&mut self) -> Option<bool> {
@@ -48,7 +49,7 @@ impl<'a> Numbers<'a> {
     }
 
     // Whether the line has no more.
-    pub(crate) fn is_over(&mut self) -> bool {
-        self.parts.next().is_none()
+    pub(crate) fn is_over(&self) -> bool {
+        self.rest.is_none()
     }
 }
