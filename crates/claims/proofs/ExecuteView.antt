@@ -18,6 +18,7 @@ use Rattle.frame.specs.Row.{row_of, frame_of}
 use Rattle.frame.specs.Store.{whole_rows, saved_store}
 use Rattle.frame.proofs.RowLaws.{frame_of_row}
 use Rattle.frame.proofs.StoreLaws.{saved_row, saved_below}
+use Rattle.records.specs.declared.Record.{Record}
 use Rattle.records.specs.Record.{good_record}
 use Rattle.records.proofs.RecordLaws.{good_operation}
 use Rattle.operations.specs.NearCall.{wanted_ergs, caller_of, opened_of}
@@ -56,23 +57,20 @@ first_false : (a b : Bool) → (a || b) ≡ false → a ≡ false
 first_false a b e = grind arith
 
 -- what each operation that is not refused does to frames
-abbrev kind : ℕ → machines.FrameOperation
-kind o = cond (eqb o 3) machines.near_call (cond (eqb o 4) machines.ret machines.neither)
+nop_kind : (r : Record) → eqb r.operation 0 ≡ true → operation_of r ≡ machines.neither
+nop_kind r = grind (arith, nat_tests)
 
-nop_kind : (o : ℕ) → eqb o 0 ≡ true → kind o ≡ machines.neither
-nop_kind o = grind (arith, nat_tests)
+sum_kind : (r : Record) → (eqb r.operation 1 || eqb r.operation 2) ≡ true → operation_of r ≡ machines.neither
+sum_kind r = grind (arith, nat_tests)
 
-sum_kind : (o : ℕ) → (eqb o 1 || eqb o 2) ≡ true → kind o ≡ machines.neither
-sum_kind o = grind (arith, nat_tests)
-
-call_kind : (o : ℕ) → eqb o 3 ≡ true → kind o ≡ machines.near_call
-call_kind o = grind (arith, nat_tests)
+call_kind : (r : Record) → eqb r.operation 3 ≡ true → operation_of r ≡ machines.near_call
+call_kind r = grind (arith, nat_tests)
 
 ret_test : (o : ℕ) → o ≤ 5 → eqb o 0 ≡ false → (eqb o 1 || eqb o 2) ≡ false → eqb o 3 ≡ false → eqb o 5 ≡ false → eqb o 4 ≡ true
 ret_test o = grind (arith, nat_tests)
 
-ret_kind : (o : ℕ) → eqb o 4 ≡ true → kind o ≡ machines.ret
-ret_kind o = grind (arith, nat_tests)
+ret_kind : (r : Record) → eqb r.operation 4 ≡ true → operation_of r ≡ machines.ret
+ret_kind r = grind (arith, nat_tests)
 
 module _ (x : CoreExecuteArgs) (s : State) (store : List ℕ) where
   -- what a finished call does
@@ -168,10 +166,10 @@ execute_view x s store =
         (cond r (near_call_done 16 x.settings (want x s store) s) (close_done x.settings (top_frame s store) s))))
         (cond r (opened_store x s store) store)
     chosen at sized l e5 call ret true q true e0 e12 e3 = absurd (grind (arith, nat_tests))
-    chosen at sized l e5 call ret true q false e0 e12 e3 = nop_view x s store at (nop_kind o e0)
+    chosen at sized l e5 call ret true q false e0 e12 e3 = nop_view x s store at (nop_kind (record_of s) e0)
     chosen at sized l e5 call ret false true true e0 e12 e3 = absurd (grind (arith, nat_tests))
-    chosen at sized l e5 call ret false true false e0 e12 e3 = sum_view x s store at (sum_kind o e12)
-    chosen at sized l e5 call ret false false true e0 e12 e3 = call_view x s store at (call_kind o e3) sized (call e3)
+    chosen at sized l e5 call ret false true false e0 e12 e3 = sum_view x s store at (sum_kind (record_of s) e12)
+    chosen at sized l e5 call ret false false true e0 e12 e3 = call_view x s store at (call_kind (record_of s) e3) sized (call e3)
     chosen at sized l e5 call ret false false false e0 e12 e3 =
         let e4 = ret_test o l e0 e12 e3 e5 in
-        return_view x s store at (ret_kind o e4) (ret e4)
+        return_view x s store at (ret_kind (record_of s) e4) (ret e4)
